@@ -1,0 +1,23 @@
+-- Halves and quarters on both sides of zero, rounded. Assumes nothing.
+use mathlib.Core.Path.{_≡_, refl}
+use mathlib.Core.List.{List, [], _∷_, map}
+use Prim.Native.Nat.{ℕ}
+use lib.IntN.{ℤ, pos, negsuc}
+use Rattle.whole.specs.Whole.{nearest}
+
+pub record Case : Type 0 where
+  pub num : ℤ
+  pub den : ℕ
+  pub wanted : ℤ
+
+-- first "rim edge 0 and 1: 1. Of -1 and 0: 0"
+abbrev pub cases : List Case
+cases =
+    record { num = pos 1; den = 2; wanted = pos 1 } ∷ record { num = negsuc 0; den = 2; wanted = pos 0 }
+    ∷ record { num = pos 3; den = 2; wanted = pos 2 } ∷ record { num = negsuc 2; den = 2; wanted = negsuc 0 }
+    ∷ record { num = pos 1; den = 4; wanted = pos 0 } ∷ record { num = negsuc 0; den = 4; wanted = pos 0 }
+    ∷ record { num = pos 3; den = 4; wanted = pos 1 } ∷ record { num = negsuc 2; den = 4; wanted = negsuc 0 } ∷ []
+
+pub all-hold : map (λ c. nearest (c .num) (c .den)) cases ≡ map (λ c. c .wanted) cases
+unfolding nearest
+all-hold = refl
