@@ -11,11 +11,11 @@ use Rattle.whole.proofs.Reading.{Is, is-pos, is-as, is-sub, is-add, is-
 use Rattle.whole.proofs.Rounding.{nearest-range}
 use Rattle.whole.proofs.Half.{nearest-rounds}
 
-pub near-inRange : (z : ℤ) → Near z → inRange z ≡ true
-near-inRange z h = le-leb (natAbs z) reach h
+pub near-inRange : {z : ℤ} → Near z → inRange z ≡ true
+near-inRange {z} h = le-leb (natAbs z) reach (h .size)
 
 pub inRange-near : (z : ℤ) → inRange z ≡ true → Near z
-inRange-near z e = leb-true (natAbs z) reach e
+inRange-near z e = record { size = leb-true (natAbs z) reach e }
 
 -- s is a sum of raised numbers of weight w in all, and stands for z
 pub record Raised (s w : ℕ) (z : ℤ) : Type 0 where
@@ -25,10 +25,10 @@ pub record Raised (s w : ℕ) (z : ℤ) : Type 0 where
 pub raised-zero : Raised 0 0 (pos 0)
 raised-zero = record { same = is-pos 0; most = omega arith }
 
-pub raised-one : (z : ℤ) → Near z → Raised (raise z) 1 z
+pub raised-one : {z : ℤ} → Near z → Raised (raise z) 1 z
 unfolding raise
-raised-one (pos n) h = record { same = record { same = omega arith }; most = omega arith }
-raised-one (negsuc n) h = record { same = record { same = omega arith }; most = omega arith }
+raised-one {z = pos n} h = record { same = record { same = omega arith }; most = omega arith }
+raised-one {z = negsuc n} h = record { same = record { same = omega arith }; most = omega arith }
 
 pub raised-add : {s w t v : ℕ} {y z : ℤ} → Raised s w y → Raised t v z → Raised (s + t) (w + v) (y +ℤ z)
 raised-add h k = record { same = is-as (is-add (h .same) (k .same)) (omega arith); most = omega (arith, h .most, k .most) }
@@ -50,7 +50,7 @@ raise-is {z = pos n} h = omega (arith, h .same .same)
 raise-is {z = negsuc n} h = omega (arith, h .same .same)
 
 pub raised-near : {s : ℕ} {z : ℤ} → Raised s 1 z → Near z
-raised-near h = abs-le (h .same) (omega (arith, h .most)) (omega arith)
+raised-near h = record { size = abs-le (h .same) (omega (arith, h .most)) (omega arith) }
 
 pub raised-lower : (s : ℕ) → s ≤ 2 * reach → Raised s 1 (lower 1 s)
 unfolding lower
@@ -62,4 +62,4 @@ raised-size h = abs-le (h .same) (omega (arith, h .most)) (omega arith)
 
 -- what `rounded` gives of a weighted sum: the nearest whole number to the mean, raised
 pub mean : {s d : ℕ} {z : ℤ} → 0 < d → Raised s d z → Raised (raise (nearest (lower d s) d)) 1 (nearest z d)
-mean {s} {d} {z} h k = rw (lower-is k) (raised-one (nearest z d) (nearest-range h (nearest-rounds .near z d h) (raised-size k)))
+mean {s} {d} {z} h k = rw (lower-is k) (raised-one record { size = nearest-range h (nearest-rounds .near z d h) (raised-size k) })

@@ -12,8 +12,8 @@ abbrev pub inRange : ℤ → Bool
 inRange z = leb (natAbs z) reach
 
 -- the same as a fact
-abbrev pub Near : ℤ → Type 0
-Near z = natAbs z ≤ reach
+pub record Near (z : ℤ) : Type 0 where
+  pub size : natAbs z ≤ reach
 
 -- z / d, rounded down
 abbrev pub floor : ℤ → ℕ → ℤ
