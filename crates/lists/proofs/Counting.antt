@@ -1,18 +1,18 @@
 -- Counting: the k-th of those that pass, and as many different numbers that pass as there are. Assumes nothing.
-use mathlib.Core.Path.{_≡_, refl, sym, ap, _∙_, subst}
+use mathlib.Core.Path.{_≡_, refl, sym, ap, _∙_}
 use mathlib.Core.Logic.{_≢_}
-use Prim.Native.Nat.{ℕ, zero, suc, _+_, _-_, _*_, _<_, _≤_, zero-le, suc-le-suc}
+use Prim.Native.Nat.{ℕ, zero, suc, _+_, _-_, _<_, _≤_, zero-le, suc-le-suc}
 use native.Mathlib.Nat.{le-of-suc-le-suc, not-suc-le-zero}
 use native.Mathlib.Omega.{arith}
 use native.Mathlib.Decide.{ℕ-discrete}
 use mathlib.Core.Bool.{Bool, true, false, not, _&&_}
-use mathlib.Core.List.{List, [], _∷_, _++_, map}
-use mathlib.Core.Option.{Option, none, some}
-use lib.Dec.{T, T-not, not-T, eqb, eqb→eq, eqb-refl}
+use mathlib.Core.List.{List, [], _∷_, _++_}
+use mathlib.Core.Option.{Option}
+use lib.Dec.{T, T-not, eqb, eqb→eq, eqb-refl}
 use lib.Ieee.Fits.{and-i, eq→eqb}
 use lib.ListN.{length, getD}
 use Rattle.lists.specs.Lists.{pick, bit, count, find, keep, tally}
-use Rattle.lists.proofs.Places.{length-count, getD-count, Found, Look, nowhere, there, look, rank-suc, length-keep}
+use Rattle.lists.proofs.Places.{length-count, getD-count, Look, nowhere, there, look, rank-suc, length-keep}
 
 -- ---- the k-th of those that pass
 

@@ -1,7 +1,7 @@
 -- Laws of places, searches, pieces and ranks. Assumes nothing.
-use mathlib.Core.Path.{_≡_, refl, sym, ap, ap₂, _∙_, subst}
-use Prim.Native.Nat.{ℕ, zero, suc, _+_, _-_, _*_, _<_, _≤_, zero-le, suc-le-suc}
-use native.Mathlib.Nat.{add-zero, zero-add, add-suc, suc-add, le-of-suc-le-suc, not-suc-le-zero, mul-zero, mul-suc}
+use mathlib.Core.Path.{_≡_, refl, sym, ap, ap₂, _∙_}
+use Prim.Native.Nat.{ℕ, zero, suc, _+_, _-_, _*_, _<_, zero-le, suc-le-suc}
+use native.Mathlib.Nat.{add-zero, zero-add, add-suc, le-of-suc-le-suc, not-suc-le-zero, mul-zero, mul-suc}
 use native.Mathlib.Omega.{arith}
 use mathlib.Core.Bool.{Bool, true, false, not}
 use mathlib.Core.List.{List, [], _∷_, _++_, map}

@@ -1,13 +1,13 @@
 -- Laws of stores: runs of them, rows, parts and clearing. Assumes nothing.
-use Prim.Native.Nat.{ℕ, zero, suc, _+_, _-_, _*_, _≤_, _<_}
-use mathlib.Core.Path.{_≡_, refl, ap, sym, _∙_}
+use Prim.Native.Nat.{ℕ, zero, suc, _+_, _*_, _≤_, _<_}
+use mathlib.Core.Path.{_≡_, refl, ap, _∙_}
 use mathlib.Core.Logic.{_⊎_, ⊎-elim, inl, inr}
 use mathlib.Core.List.{List, [], _∷_, _++_, append-assoc}
 use native.Mathlib.Omega.{arith}
 use native.Mathlib.Numerals.{add-one}
 use native.Mathlib.Nat.{add-zero, zero-add, mul-zero, mul-suc}
-use lib.ListN.{length, getD, set, take, drop, replicate, length-append, length-take, length-drop, length-replicate}
-use lib.Seq.{sets, sets-eq, length-sets, take-suc, length-take-le, getD-set-other, getD-take, getD-drop, drop-set-lt, take-at, drop-at}
+use lib.ListN.{length, getD, set, take, drop, replicate, length-append, length-drop, length-replicate}
+use lib.Seq.{sets, sets-eq, take-suc, length-take-le, getD-set-other, getD-take, getD-drop, drop-set-lt, take-at, drop-at}
 use Rattle.lists.specs.Lists.{rows, turns, part, cleared}
 
 module _ {ℓ} {A : Type ℓ} where

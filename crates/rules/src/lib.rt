@@ -10,7 +10,7 @@ pub struct Refusal {
 pub struct Counts {
     pub vertices: u32,
     pub faces: u32,
-    pub rim_sides: u32,
+    pub rims: u32,
 }
 
 // One outcome per call: `answer` of specs/Answers gives the paper's five numbers for each case.

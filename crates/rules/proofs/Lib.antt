@@ -1,0 +1,17 @@
+pub mod Sides
+pub mod Refine
+pub mod Links
+pub mod Grown
+pub mod Faces
+pub mod Number
+pub mod Walks
+pub mod Turns
+pub mod Fans
+pub mod Edges
+pub mod Rings
+pub mod Sound
+pub mod Totals
+pub mod Levels
+pub mod Checks
+pub mod Cage
+pub mod Spokes

@@ -1,0 +1,91 @@
+-- The numbers of the edges. Assumes nothing.
+use mathlib.Core.Path.{_≡_, refl, sym, ap}
+use mathlib.Core.Logic.{_↔_}
+use Prim.Native.Nat.{ℕ, _+_, _-_, _*_, _<_, _≤_}
+use native.Mathlib.Omega.{arith}
+use mathlib.Core.Bool.{not}
+use mathlib.Core.List.{List}
+use mathlib.Core.Option.{Option, none, some}
+use lib.Dec.{T, leb→le, le→leb, nleb→lt}
+use lib.ListN.{length, getD}
+use Rattle.lists.specs.Lists.{count, tally}
+use Rattle.rules.specs.Mesh.{links, isFirst, firstOf, firstMet, meeting, firsts}
+use Rattle.lists.proofs.Places.{rank-inj}
+use Rattle.lists.proofs.Counting.{Kept, kept}
+use Rattle.rules.proofs.Sides.{length-links, Twins, twin-some}
+use Rattle.rules.proofs.Refine.{Good, Shares, itself, across, midOf, edges, mid-below, middle-twin, middle-shares, meeting-first, link-is, inside}
+
+first-self : (s : ℕ) (o : Option ℕ) → T (isFirst s o) → firstOf s o ≡ s
+first-self s none t = refl
+first-self s (some x) t = omega (arith, leb→le s x t)
+
+-- the side at which an rim is first met, by the edge's number
+pub record FirstAt (v n : ℕ) (fs : List ℕ) (i s : ℕ) : Type 0 where
+  pub below : s < 3 * n
+  pub first : T (firstMet (links fs) s)
+  pub is : midOf v fs s ≡ v + i
+
+module _ (v n : ℕ) (fs : List ℕ) (g : Good v n fs) where
+  -- middle s = middle t exactly where t is s or its link
+  pub middle-iff : (s t : ℕ) → s < 3 * n → t < 3 * n → (midOf v fs s ≡ midOf v fs t) ↔ Shares fs s t
+  middle-iff s t hs ht = (middle-shares v n fs g s t hs ht, back)
+    where
+      back : Shares fs s t → midOf v fs s ≡ midOf v fs t
+      back (itself p) = ap (midOf v fs) (sym p)
+      back (across w) = middle-twin v n fs g s t hs w
+
+  pub middle-range : (s : ℕ) → s < 3 * n → (v ≤ midOf v fs s) × (midOf v fs s < v + edges v n fs g)
+  middle-range s h = (omega arith, mid-below v n fs g s h)
+
+  -- the i-th of the first sides has the number i
+  pub first-at : (i : ℕ) → i < edges v n fs g → FirstAt v n fs i (getD (firsts (links fs)) i 0)
+  first-at i h =
+      let ls = links fs in
+      let k : Kept (firstMet ls) 0 (length ls) i (getD (firsts ls) i 0) = kept (firstMet ls) 0 (length ls) i h in
+      let s = getD (firsts ls) i 0 in
+      let z : s - 0 ≡ s = omega arith in
+      let r = rw z at (k .rank) in
+      let m : meeting ls s ≡ s = first-self s (getD ls s none) (k .passes) in
+      record { below = omega (arith, k .below, length-links fs, g .size); first = k .passes; is = rw m (ap (λ (x : ℕ). v + x) r) }
+
+  -- and the number of any side leads to the first of its rim
+  pub first-of : (s : ℕ) → s < 3 * n → getD (firsts (links fs)) (midOf v fs s - v) 0 ≡ meeting (links fs) s
+  first-of s h =
+      let i = midOf v fs s - v in
+      let b : i < edges v n fs g = omega (arith, mid-below v n fs g s h) in
+      let ls = links fs in
+      let k : Kept (firstMet ls) 0 (length ls) i (getD (firsts ls) i 0) = kept (firstMet ls) 0 (length ls) i b in
+      let a = getD (firsts ls) i 0 in
+      let z : a - 0 ≡ a = omega arith in
+      let r = rw z at (k .rank) in
+      rank-inj (firstMet ls) a (meeting ls s) (k .passes) (meeting-first v n fs g s h) (omega (arith, r))
+
+  -- every number in the range is the number of an rim
+  pub middle-onto : (m : ℕ) → v ≤ m → m < v + edges v n fs g → (s : ℕ) × (s < 3 * n) × (midOf v fs s ≡ m)
+  middle-onto m h k =
+      let f = first-at (m - v) (omega arith) in
+      (getD (firsts (links fs)) (m - v) 0, f .below, omega (arith, f .is))
+
+  -- ---- for a loop over the sides in order: a first side gets the next number, and a later one has the number of its link
+
+  pub middle-first : (s : ℕ) → T (firstMet (links fs) s) → midOf v fs s ≡ v + tally (firstMet (links fs)) (count 0 s)
+  middle-first s t = ap (λ (x : ℕ). v + tally (firstMet (links fs)) (count 0 x)) (first-self s (getD (links fs) s none) t)
+
+  pub middle-later : (s : ℕ) → s < 3 * n → T (not (firstMet (links fs) s)) → (t : ℕ) × (getD (links fs) s none ≡ some t) × (t < s) × (midOf v fs s ≡ midOf v fs t)
+  middle-later s h f = go (getD (links fs) s none) refl f
+    where
+      go : (o : Option ℕ) → getD (links fs) s none ≡ o → T (not (isFirst s o)) → (t : ℕ) × (getD (links fs) s none ≡ some t) × (t < s) × (midOf v fs s ≡ midOf v fs t)
+      go none e k = absurd k
+      go (some t) e k = (t, e, nleb→lt s t k, middle-twin v n fs g s t h (twin-some fs s t (inside v n fs g h) e))
+
+  -- by looking through the face list (request 12): a side is the first of its rim where no side before it runs the other way
+  pub first-iff : (s : ℕ) → s < 3 * n → T (firstMet (links fs) s) ↔ ((t : ℕ) → t < s → ¬ Twins fs s t)
+  first-iff s h = (λ f t l w. to (getD (links fs) s none) (link-is v n fs g s t h w) f l, λ k. from (getD (links fs) s none) refl k)
+    where
+      to : {t : ℕ} (o : Option ℕ) → o ≡ some t → T (isFirst s o) → t < s → ⊥
+      to {t} none e f l = absurd (let z : _≡_ {A = ℕ} 0 1 = cc in omega arith)
+      to {t} (some x) e f l = let q : x ≡ t = cc in omega (arith, leb→le s x f)
+
+      from : (o : Option ℕ) → getD (links fs) s none ≡ o → ((t : ℕ) → t < s → ¬ Twins fs s t) → T (isFirst s o)
+      from none e k = tt
+      from (some x) e k = le→leb s x (let a : ¬ (x < s) = λ l. k x l (twin-some fs s x (inside v n fs g h) e) in omega arith)
