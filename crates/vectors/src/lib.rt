@@ -1,9 +1,12 @@
 // Points of three floats, by value, and their operators as the Rust has them.
 ghost use mathlib.Core.Path.{_≡_};
+ghost use lib.Ieee.{binary32, toBits};
+ghost use Rattle.vectors.specs.Narrow.{narrowed};
 ghost use Rattle.vectors.specs.Vectors.{plus, minus, negated, scaled, origin, minor, cross};
 
 pub mod narrow;
 
+#[repr(C)]
 pub struct Vec3 {
     pub x: f32,
     pub y: f32,
@@ -65,9 +68,9 @@ impl Vec3 {
         ensures { λ r. ⌜ r ≡ cross self b ⌝ }
     {
         Vec3 {
-            x: difference(self.y, b.z, self.z, b.y),
-            y: difference(self.z, b.x, self.x, b.z),
-            z: difference(self.x, b.y, self.y, b.x),
+            x: minor(self.y, b.z, self.z, b.y),
+            y: minor(self.z, b.x, self.x, b.z),
+            z: minor(self.x, b.y, self.y, b.x),
         }
     }
 }
@@ -79,8 +82,23 @@ fn wide(x: f32) -> f64
     std::num::f32_to_f64_with_nan(x)
 }
 
-fn difference(a: f32, b: f32, c: f32, d: f32) -> f32
+fn minor(a: f32, b: f32, c: f32, d: f32) -> f32
     ensures { λ r. ⌜ r ≡ minor a b c d ⌝ }
 {
     narrow::narrow(wide(a) * wide(b) - wide(c) * wide(d))
+}
+
+// The two below are for C, which compares them with its own arithmetic.
+#[no_mangle]
+pub extern "C" fn vectors_narrow(x: f64) -> u32
+    ensures { λ r. ⌜ r ≡ toBits binary32 (narrowed x) ⌝ }
+{
+    narrow::pattern(x)
+}
+
+#[no_mangle]
+pub extern "C" fn vectors_cross(a: Vec3, b: Vec3) -> Vec3
+    ensures { λ r. ⌜ r ≡ cross a b ⌝ }
+{
+    a.cross(b)
 }

@@ -4,7 +4,7 @@ use mathlib.Core.Path.{_∙_, ap}
 use lib.Ieee.{binary32, ofBits}
 use lib.Ieee.Bits.{ofBits-toBits}
 use Rattle.vectors.specs.Narrow.{narrowed}
-use Rattle.vectors.proofs.Whole.{no-nan, of-nan, narrowed-fits, written-no-nan}
+use Rattle.vectors.proofs.Patterns.{no-nan, of-nan, narrowed-fits, written-no-nan}
 use Rattle.vectors.proofs.narrow.narrow.Statement.{statement}
 use Rattle.vectors.proofs.narrow.narrow.Tie as tie
 

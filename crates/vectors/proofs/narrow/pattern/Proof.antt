@@ -1,10 +1,10 @@
--- `vectors::narrow::pattern` meets its contract, by the laws of `proofs/Whole.antt`.
+-- `vectors::narrow::pattern` meets its contract, by the laws of `proofs/Patterns.antt`.
 -- Assumes nothing.
 use mathlib.Core.Path.{sym, subst}
 use native.Mathlib.Omega.{arith}
 use lib.Dec.{T}
 use lib.Ieee.{binary64, fits}
-use Rattle.vectors.proofs.Whole.{no-nan, nan-bits, wide, pattern-no-nan, made}
+use Rattle.vectors.proofs.Patterns.{no-nan, nan-bits, wide, pattern-no-nan, made}
 use Rattle.vectors.proofs.narrow.pattern.Statement.{statement}
 use Rattle.vectors.proofs.narrow.pattern.Tie as tie
 

@@ -1,8 +1,8 @@
--- `vectors::difference` meets its contract: each `wide` is its argument, and `narrow` is `narrowed`.
+-- `vectors::minor` meets its contract: each `wide` is its argument, and `narrow` is `narrowed`.
 -- Assumes nothing.
 use borrow.Author.Needs.{needs}
-use Rattle.vectors.proofs.difference.Statement.{statement}
-use Rattle.vectors.proofs.difference.Tie as tie
+use Rattle.vectors.proofs.minor.Statement.{statement}
+use Rattle.vectors.proofs.minor.Tie as tie
 
 wide-requires : tie.Need-wide-requires
 wide-requires c κs = search needs
@@ -22,5 +22,5 @@ narrow-requires c κs = search needs
 returns : tie.Need-returns
 returns c = cc
 
-pub difference-spec : {M : Type 1} → statement M
-difference-spec = tie.close (tie.spec wide-requires wide-requires-2 wide-requires-3 wide-requires-4 narrow-requires returns)
+pub minor-spec : {M : Type 1} → statement M
+minor-spec = tie.close (tie.spec wide-requires wide-requires-2 wide-requires-3 wide-requires-4 narrow-requires returns)
