@@ -1,0 +1,453 @@
+#!/usr/bin/env python3
+"""An independent reference of both engines, the checks, the sheets and `platecut`, from docs/RULES.md alone.
+
+It shares no code with the Rattle crates or the oracle, searches where they keep links, and works in Python's own whole numbers and
+fractions. `python3 tests/reference.py < sheet` prints what `platecut` prints.
+
+A cage is levels, a flat list of corner numbers and a flat list of coordinates: whole numbers (kind WHOLE) or f32 bits (kind F32).
+"""
+import struct
+import sys
+from collections import namedtuple
+from fractions import Fraction
+from functools import lru_cache
+from math import factorial, lcm
+
+WHOLE, F32 = "whole", "f32"
+Counts = namedtuple("Counts", "vertices faces rim_sides")
+Answer = namedtuple("Answer", "counts indices positions normals")
+
+
+class Refused(Exception):
+    def __init__(self, number, place=0):
+        super().__init__(f"refused {number} at {place}")
+        self.number, self.place = number, place
+
+
+# ---- the mesh
+
+class Mesh:
+    """Faces as triples of vertex numbers; `starts` has the start face of each vertex."""
+
+    def __init__(self, faces, starts):
+        self.faces, self.starts = faces, starts
+        self.side_from = {}
+        for f, face in enumerate(faces):
+            for k in range(3):
+                self.side_from[face[k], face[(k + 1) % 3]] = f
+
+    @classmethod
+    def of_cage(cls, indices, vertices):
+        faces = [tuple(indices[i:i + 3]) for i in range(0, len(indices), 3)]
+        starts = [None] * vertices
+        for f, face in enumerate(faces):
+            for v in face:
+                starts[v] = f
+        return cls(faces, starts)
+
+    def next_vert(self, f, v):
+        return self.faces[f][(self.faces[f].index(v) + 1) % 3]
+
+    def prev_vert(self, f, v):
+        return self.faces[f][(self.faces[f].index(v) + 2) % 3]
+
+    def next_face(self, f, v):
+        return self.side_from.get((self.next_vert(f, v), v))
+
+    def prev_face(self, f, v):
+        return self.side_from.get((v, self.prev_vert(f, v)))
+
+    def ring(self, v):
+        """Whether v is inner, and its ring."""
+        f, ring = self.starts[v], []
+        while True:
+            ring.append(self.next_vert(f, v))
+            following = self.next_face(f, v)
+            if following == self.starts[v]:
+                return True, ring
+            if following is None:
+                break
+            f = following
+        ring = [self.next_vert(f, v)]
+        while f is not None:
+            ring.append(self.prev_vert(f, v))
+            f = self.prev_face(f, v)
+        return False, ring
+
+    def rim_sides(self):
+        return sum((b, a) not in self.side_from for a, b in self.side_from)
+
+    def edges(self):
+        """The edges in the order of their numbers, as (face, side) of the first meeting."""
+        met, found = set(), []
+        for f, face in enumerate(self.faces):
+            for k in range(3):
+                ends = frozenset((face[k], face[(k + 1) % 3]))
+                if ends not in met:
+                    met.add(ends)
+                    found.append((f, k))
+        return found
+
+    def refined(self):
+        edges, number = self.edges(), {}
+        for n, (f, k) in enumerate(edges):
+            face = self.faces[f]
+            number[frozenset((face[k], face[(k + 1) % 3]))] = len(self.starts) + n
+        children = []
+        for a, b, c in self.faces:
+            m0, m1, m2 = number[frozenset((a, b))], number[frozenset((b, c))], number[frozenset((c, a))]
+            children += [(a, m0, m2), (m0, b, m1), (m2, m1, c), (m0, m1, m2)]
+        old = [4 * f + self.faces[f].index(v) for v, f in enumerate(self.starts)]
+        return Mesh(children, old + [4 * f + 3 for f, _ in edges])
+
+
+# ---- the checks
+
+def in_range(kind, c):
+    if kind == WHOLE:
+        return -1_000_000_000 <= c <= 1_000_000_000
+    return (c & 0x7FFFFFFF) <= 0x53800000  # 2^40; infinities and NaN lie above
+
+
+def fans(faces, v):
+    """How many fans the faces at v form. A face (v, a, b) is an arrow from a to b; the face across its side v, a ends at a."""
+    onward = {f[(f.index(v) + 1) % 3]: f[(f.index(v) + 2) % 3] for f in faces}
+    ends = set(onward.values())
+    groups = 0
+    for a in sorted(onward, key=lambda a: a in ends):
+        if a in onward:
+            groups += 1
+        while a in onward:
+            a = onward.pop(a)
+    return groups
+
+
+def first(number, places):
+    for place in places:
+        raise Refused(number, place)
+
+
+def check_cage(levels, indices, coords, kind):
+    """Checks 1 to 12, in order. The mesh of an accepted cage."""
+    if levels > 7:
+        raise Refused(1)
+    first(2, [n for n, xs in enumerate((indices, coords)) if len(xs) % 3])
+    first(3, [n for n, xs in enumerate((indices, coords)) if len(xs) // 3 > 4096])
+    first(4, [i for i, c in enumerate(coords) if not in_range(kind, c)])
+    vertices = len(coords) // 3
+    first(5, [i for i, v in enumerate(indices) if v >= vertices])
+    faces = [tuple(indices[i:i + 3]) for i in range(0, len(indices), 3)]
+    first(6, [f for f, face in enumerate(faces) if len(set(face)) < 3])
+    used = set()
+    for s, side in enumerate((face[k], face[(k + 1) % 3]) for face in faces for k in range(3)):
+        if side in used:
+            raise Refused(7, s)
+        used.add(side)
+    sets = set()
+    for f, face in enumerate(faces):
+        if frozenset(face) in sets:
+            raise Refused(8, f)
+        sets.add(frozenset(face))
+    at = [[] for _ in range(vertices)]
+    for face in faces:
+        for v in face:
+            at[v].append(face)
+    first(9, [v for v in range(vertices) if not at[v]])
+    first(10, [v for v in range(vertices) if fans(at[v], v) > 1])
+    mesh = Mesh.of_cage(indices, vertices)
+    # 11, a ring walk that passes more faces than the mesh has, cannot happen past this point.
+    first(12, [v for v in range(vertices) if len(mesh.ring(v)[1]) > 16])
+    return mesh
+
+
+def final_counts(mesh, levels):
+    faces, vertices, edges = len(mesh.faces), len(mesh.starts), len(mesh.edges())
+    for _ in range(levels):
+        faces, vertices, edges = 4 * faces, vertices + edges, 2 * edges + 3 * faces
+    return faces, vertices
+
+
+def needed(faces, vertices, kind):
+    """The lent lengths by the number that refusal 14 gives each buffer."""
+    lengths = {0: 3 * vertices, 1: 3 * vertices, 2: 3 * faces, 3: 16 * faces + 8 * vertices, 4: 6 * vertices}
+    if kind == WHOLE:
+        del lengths[1]
+    return lengths
+
+
+def check(levels, indices, coords, kind, room=None):
+    """Checks 1 to 14. `room` has the lent length of each buffer; with None there is always enough."""
+    mesh = check_cage(levels, indices, coords, kind)
+    faces, vertices = final_counts(mesh, levels)
+    if faces > 32768 or vertices > 32768:
+        raise Refused(13)
+    if room is not None:
+        first(14, [n for n, length in needed(faces, vertices, kind).items() if room[n] < length])
+    return mesh
+
+
+# ---- positions
+
+def beta(n):
+    return Fraction(3, 16) if n == 3 else Fraction(3, 8 * n)
+
+
+def inner_limit(n):
+    return 1 / (n + 3 / (8 * beta(n)))
+
+
+@lru_cache(maxsize=None)
+def over_one_denominator(*weights):
+    """Fractions as whole numerators, and their denominator."""
+    d = lcm(*(w.denominator for w in weights))
+    return [int(w * d) for w in weights], d
+
+
+def rule(own, v, b, others):
+    """A rule is a list of (vertex, numerator) and a denominator."""
+    (own, b), d = over_one_denominator(own, b)
+    return [(v, own)] + [(r, b) for r in others], d
+
+
+def refining(v, inner, ring):
+    if inner:
+        b = beta(len(ring))
+        return rule(1 - len(ring) * b, v, b, ring)
+    b = Fraction(1, 8)
+    return rule(1 - 2 * b, v, b, [ring[0], ring[-1]])
+
+
+def at_limit(v, inner, ring):
+    if inner:
+        b = inner_limit(len(ring))
+        return rule(1 - len(ring) * b, v, b, ring)
+    b = Fraction(1, 5)
+    return rule(1 - 2 * b, v, b, [ring[0], ring[-1]])
+
+
+def far_corner(face, ends):
+    return next(v for v in face if v not in ends)
+
+
+def edge_rule(mesh, f, k):
+    face = mesh.faces[f]
+    a, b = face[k], face[(k + 1) % 3]
+    low, high = min(a, b), max(a, b)
+    other = mesh.side_from.get((b, a))
+    if other is None:
+        return [(low, 1), (high, 1)], 2
+    return [(low, 3), (high, 3), (far_corner(face, (a, b)), 1), (far_corner(mesh.faces[other], (a, b)), 1)], 8
+
+
+def half_up(numerator, denominator):
+    """The nearest whole number; a half goes up."""
+    return (2 * numerator + denominator) // (2 * denominator)
+
+
+def exact(numerator, denominator):
+    return Fraction(numerator) / denominator
+
+
+def mean(points, rule, rounded):
+    terms, d = rule
+    return tuple(rounded(sum(points[v][axis] * w for v, w in terms), d) for axis in range(3))
+
+
+def vertex_rules(mesh, place):
+    return [place(v, *mesh.ring(v)) for v in range(len(mesh.starts))]
+
+
+def run_levels(mesh, points, levels, rounded):
+    """The mesh and the points after the levels and before the limit."""
+    for _ in range(levels):
+        rules = vertex_rules(mesh, refining) + [edge_rule(mesh, f, k) for f, k in mesh.edges()]
+        points = [mean(points, rule, rounded) for rule in rules]
+        mesh = mesh.refined()
+    return mesh, points
+
+
+def triples(flat):
+    return [tuple(flat[i:i + 3]) for i in range(0, len(flat), 3)]
+
+
+def limit(mesh, coords, levels, rounded):
+    """The last mesh and its limit points: rounded by `half_up` the whole engine's, by `exact` the exact limit positions."""
+    mesh, points = run_levels(mesh, triples(coords), levels, rounded)
+    return mesh, [mean(points, rule, rounded) for rule in vertex_rules(mesh, at_limit)]
+
+
+def counts_of(mesh):
+    return Counts(len(mesh.starts), len(mesh.faces), mesh.rim_sides())
+
+
+def loop_subdivide_whole(levels, indices, coords, room=None):
+    mesh, points = limit(check(levels, indices, coords, WHOLE, room), coords, levels, half_up)
+    return Answer(counts_of(mesh), [v for face in mesh.faces for v in face], [c for p in points for c in p], None)
+
+
+def exact_limit(levels, indices, coords):
+    """The exact limit positions of an accepted whole cage, as fractions."""
+    mesh, points = limit(check(levels, indices, coords, WHOLE), coords, levels, exact)
+    return [Fraction(c) for p in points for c in p]
+
+
+# ---- the f32 engine
+
+def f32(x):
+    """x, a float with 53 bits, narrowed to f32. One operation on two f32 worked in 53 bits and narrowed is rounded once in effect."""
+    return struct.unpack("<f", struct.pack("<f", x))[0]
+
+
+def from_bits(b):
+    return struct.unpack("<f", struct.pack("<I", b))[0]
+
+
+def to_bits(x):
+    return struct.unpack("<I", struct.pack("<f", x))[0]
+
+
+def plus(p, q):
+    return tuple(f32(a + b) for a, b in zip(p, q))
+
+
+def minus(p, q):
+    return tuple(f32(a - b) for a, b in zip(p, q))
+
+
+def times(p, w):
+    return tuple(f32(a * w) for a in p)
+
+
+def cross(s, t):
+    return tuple(f32(s[i] * t[j] - s[j] * t[i]) for i, j in ((1, 2), (2, 0), (0, 1)))
+
+
+def series_value(x, power, last):
+    """The powers of x from the first through the last, every second one over its factorial, signs alternating."""
+    return sum((-1)**((n - power) // 2) * x**n / factorial(n) for n in range(power, last + 1, 2))
+
+
+HALF_TURN = Fraction(0x3243F6A88, 2**32)
+TABLE = {(k, m): (round(series_value(HALF_TURN * k / m, 0, 20) * 2**24), round(series_value(HALF_TURN * k / m, 1, 21) * 2**24))
+         for m in range(3, 17) for k in range(m + 1)}
+
+
+def cosine(k, m):
+    return TABLE[min(k, 2 * m - k), m][0] / 2**24
+
+
+def sine(k, m):
+    return TABLE[k, m][1] / 2**24 if k <= m else -TABLE[2 * m - k, m][1] / 2**24
+
+
+def beta_f32(n):
+    return f32(3 / 16) if n == 3 else f32(3 / f32(8.0 * n))
+
+
+def weigh(points, own, b, v, others):
+    """Own term first, then the others in order, each operation rounded."""
+    p = times(points[v], own)
+    for r in others:
+        p = plus(p, times(points[r], b))
+    return p
+
+
+def vertex_f32(mesh, points, v, at_the_limit):
+    inner, ring = mesh.ring(v)
+    n = len(ring)
+    if inner:
+        b = beta_f32(n)
+        if at_the_limit:
+            b = f32(1 / f32(n + f32(3 / f32(8 * b))))
+        return weigh(points, f32(1 - f32(n * b)), b, v, ring)
+    b = f32(1 / 5) if at_the_limit else 0.125
+    return weigh(points, f32(1 - f32(2 * b)), b, v, [ring[0], ring[-1]])
+
+
+def edge_f32(mesh, points, f, k):
+    terms, d = edge_rule(mesh, f, k)
+    p = times(points[terms[0][0]], terms[0][1] / d)
+    for v, w in terms[1:]:
+        p = plus(p, times(points[v], w / d))
+    return p
+
+
+def tangents(inner, p, r):
+    """S and T at a vertex at p with the ring r, all limit positions."""
+    n = len(r)
+    if inner:
+        s = t = (0.0, 0.0, 0.0)
+        for i, q in enumerate(r):
+            s = plus(s, times(q, cosine(2 * i, n)))
+            t = plus(t, times(q, sine(2 * i, n)))
+        return s, t
+    s = minus(r[-1], r[0])
+    if n == 2:
+        return s, minus(plus(r[0], r[1]), times(p, 2.0))
+    if n == 3:
+        return s, minus(r[1], p)
+    if n == 4:
+        t = times(r[0], -1.0)
+        for q, w in ((r[1], 2.0), (r[2], 2.0), (r[3], -1.0), (p, -2.0)):
+            t = plus(t, times(q, w))
+        return s, t
+    t = times(plus(r[0], r[-1]), sine(1, n - 1))
+    bend = f32(2 * cosine(1, n - 1) - 2)
+    for k in range(1, n - 1):
+        t = plus(t, times(r[k], f32(bend * sine(k, n - 1))))
+    return s, tuple(-c for c in t)
+
+
+def loop_subdivide(levels, indices, coords, room=None):
+    """The f32 engine: coordinates in and out as bits."""
+    mesh = check(levels, indices, coords, F32, room)
+    points = triples([from_bits(c) for c in coords])
+    for _ in range(levels):
+        points = [vertex_f32(mesh, points, v, False) for v in range(len(points))] + \
+            [edge_f32(mesh, points, f, k) for f, k in mesh.edges()]
+        mesh = mesh.refined()
+    points = [vertex_f32(mesh, points, v, True) for v in range(len(points))]
+    normals = []
+    for v, p in enumerate(points):
+        inner, ring = mesh.ring(v)
+        normals.append(cross(*tangents(inner, p, [points[r] for r in ring])))
+    return Answer(counts_of(mesh), [v for face in mesh.faces for v in face], [to_bits(c) for p in points for c in p],
+                  [to_bits(c) for n in normals for c in n])
+
+
+# ---- sheets and platecut
+
+def write_sheet(levels, indices, coords):
+    vertices, faces = len(coords) // 3, len(indices) // 3
+    return struct.pack(f"<{len(coords)}i{len(indices)}I5I", *coords, *indices, 0, vertices, 12 * vertices, faces, levels)
+
+
+def read_sheet(sheet):
+    """Levels, corner numbers and coordinates, or refusal 15."""
+    if len(sheet) < 20:
+        raise Refused(15)
+    vertex_offset, vertices, face_offset, faces, levels = struct.unpack("<5I", sheet[-20:])
+    if vertex_offset != 0 or face_offset != 12 * vertices or len(sheet) != 12 * vertices + 12 * faces + 20:
+        raise Refused(15)
+    coords = struct.unpack(f"<{3 * vertices}i", sheet[:face_offset])
+    indices = struct.unpack(f"<{3 * faces}I", sheet[face_offset:-20])
+    return levels, list(indices), list(coords)
+
+
+def platecut(sheet):
+    """What `platecut` prints."""
+    try:
+        if len(sheet) > 32768:
+            raise Refused(16)
+        levels, indices, coords = read_sheet(sheet)
+        answer = loop_subdivide_whole(levels, indices, coords, needed(512, 512, WHOLE))
+    except Refused as refusal:
+        return f"{refusal}\n"
+    lines = ["mesh {} {} {}".format(*answer.counts)]
+    lines += ["v {} {} {}".format(*p) for p in triples(answer.positions)]
+    lines += ["f {} {} {}".format(*f) for f in triples(answer.indices)]
+    return "".join(line + "\n" for line in lines)
+
+
+if __name__ == "__main__":
+    sys.stdout.write(platecut(sys.stdin.buffer.read(32769)))
