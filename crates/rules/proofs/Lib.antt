@@ -15,3 +15,4 @@ pub mod Levels
 pub mod Checks
 pub mod Cage
 pub mod Spokes
+pub mod Weights
