@@ -4,7 +4,7 @@ use Prim.Native.Nat.{ℕ, zero, suc, _+_, _-_, _*_, _<_, zero-le, suc-le-suc}
 use native.Mathlib.Nat.{add-zero, zero-add, add-suc, le-of-suc-le-suc, not-suc-le-zero, mul-zero, mul-suc}
 use native.Mathlib.Omega.{arith}
 use mathlib.Core.Bool.{Bool, true, false, not}
-use mathlib.Core.List.{List, [], _∷_, _++_, map}
+use mathlib.Core.List.{List, [], _∷_, _++_, map, append-assoc}
 use mathlib.Core.Option.{Option, none, some}
 use lib.Dec.{T, T-not}
 use lib.ListN.{length, getD, length-append, List·getD-append}
@@ -213,3 +213,15 @@ skip false n p = (refl, p)
 pub taken : {A : Type 0} (b : Bool) {x y z : A} → (y ≡ z → ⊥) → pick b x y ≡ z → (b ≡ true) × (x ≡ z)
 taken true n p = (refl, p)
 taken false n p = absurd (n p)
+
+-- ---- one more at the end
+
+pub count-suc : (i n : ℕ) → count i (suc n) ≡ count i n ++ ((i + n) ∷ [])
+count-suc i zero = let e : i + 0 ≡ i = omega arith in rw e refl
+count-suc i (suc n) =
+    let e : suc i + n ≡ i + suc n = omega arith in
+    ap {B = List ℕ} (λ l. i ∷ l) (rw e at (count-suc (suc i) n))
+
+pub gather-append : {A B : Type 0} (f : A → List B) (a b : List A) → gather f (a ++ b) ≡ gather f a ++ gather f b
+gather-append f [] b = refl
+gather-append {B} f (x ∷ a) b = ap (λ (l : List B). f x ++ l) (gather-append f a b) ∙ sym (append-assoc (f x) (gather f a) (gather f b))

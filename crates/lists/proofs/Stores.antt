@@ -1,14 +1,15 @@
 -- Laws of stores: runs of them, rows, parts and clearing. Assumes nothing.
-use Prim.Native.Nat.{ℕ, zero, suc, _+_, _*_, _≤_, _<_}
+use Prim.Native.Nat.{ℕ, zero, suc, _+_, _-_, _*_, _≤_, _<_}
 use mathlib.Core.Path.{_≡_, refl, ap, _∙_}
 use mathlib.Core.Logic.{_⊎_, ⊎-elim, inl, inr}
-use mathlib.Core.List.{List, [], _∷_, _++_, append-assoc}
+use mathlib.Core.List.{List, [], _∷_, _++_, append-assoc, append-nil, map, map-append}
 use native.Mathlib.Omega.{arith}
 use native.Mathlib.Numerals.{add-one}
 use native.Mathlib.Nat.{add-zero, zero-add, mul-zero, mul-suc}
 use lib.ListN.{length, getD, set, take, drop, replicate, length-append, length-drop, length-replicate}
-use lib.Seq.{sets, sets-eq, take-suc, length-take-le, getD-set-other, getD-take, getD-drop, drop-set-lt, take-at, drop-at}
-use Rattle.lists.specs.Lists.{rows, turns, part, cleared}
+use lib.Seq.{sets, sets-eq, take-suc, length-take-le, getD-set-other, getD-take, getD-drop, drop-set-lt, drop-set-add, take-set-le, take-at, drop-at}
+use Rattle.lists.specs.Lists.{rows, turns, part, cleared, gather}
+use Rattle.lists.proofs.Places.{gather-append}
 
 module _ {ℓ} {A : Type ℓ} where
   pub sets-append : (xs vs l : List A) (at : ℕ) → sets (sets l at xs) (at + length xs) vs ≡ sets l at (xs ++ vs)
@@ -75,3 +76,30 @@ module _ {ℓ} {A : Type ℓ} where
   pub turns-more : (f : ℕ → A → A) (n : ℕ) (s : A) → turns f (n + 1) s ≡ f n (turns f n s)
   unfolding turns
   turns-more f n s = rw add-one
+
+  part-set : (l : List A) (at i n : ℕ) (x : A) → (i + n ≤ at) ⊎ (at < i) → part i n (set l at x) ≡ part i n l
+  part-set l at i n x h =
+      ⊎-elim
+      (λ (p : i + n ≤ at).
+      let e : at ≡ i + (at - i) = omega arith in
+      rw e (ap (take n) (drop-set-add i l (at - i) x) ∙ take-set-le n (drop i l) (at - i) x (omega arith)))
+      (λ (p : at < i). ap (take n) (drop-set-lt i l at x p))
+      h
+
+  -- a part before or after a run is not touched
+  pub part-outside : (xs l : List A) (at i n : ℕ) → (i + n ≤ at) ⊎ (at + length xs ≤ i) → part i n (sets l at xs) ≡ part i n l
+  part-outside [] l at i n h = refl
+  part-outside (x ∷ xs) l at i n h =
+      part-outside xs (set l at x) (suc at) i n (⊎-elim (λ p. inl (omega arith)) (λ p. inr (omega arith)) h) ∙
+      part-set l at i n x (⊎-elim (λ p. inl (omega arith)) (λ p. inr (omega arith)) h)
+
+-- one more entry, and one more piece, after those that stand
+module _ {A B : Type 0} where
+  pub sets-map : (f : A → B) (xs : List A) (x : A) (l : List B) (at i : ℕ) → at + length (map f xs) ≡ i →
+      set (sets l at (map f xs)) i (f x) ≡ sets l at (map f (xs ++ (x ∷ [])))
+  sets-map f xs x l at i e = rw (← e, map-append) (sets-append (map f xs) (f x ∷ []) l at)
+
+  pub sets-gather : (g : A → List B) (xs : List A) (x : A) (l : List B) (at i : ℕ) → at + length (gather g xs) ≡ i →
+      sets (sets l at (gather g xs)) i (g x) ≡ sets l at (gather g (xs ++ (x ∷ [])))
+  sets-gather g xs x l at i e =
+      rw (← e, gather-append g xs (x ∷ []), append-nil (g x)) (sets-append (gather g xs) (g x) l at)
