@@ -16,3 +16,4 @@ pub mod Checks
 pub mod Cage
 pub mod Spokes
 pub mod Weights
+pub mod Growth
