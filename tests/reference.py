@@ -203,26 +203,18 @@ def over_one_denominator(*weights):
     return [int(w * d) for w in weights], d
 
 
-def rule(own, v, b, others):
-    """A rule is a list of (vertex, numerator) and a denominator."""
-    (own, b), d = over_one_denominator(own, b)
+def rule(v, b, others):
+    """The weight b on each of the others and the rest on v: a list of (vertex, numerator), and a denominator."""
+    (own, b), d = over_one_denominator(1 - len(others) * b, b)
     return [(v, own)] + [(r, b) for r in others], d
 
 
 def refining(v, inner, ring):
-    if inner:
-        b = beta(len(ring))
-        return rule(1 - len(ring) * b, v, b, ring)
-    b = Fraction(1, 8)
-    return rule(1 - 2 * b, v, b, [ring[0], ring[-1]])
+    return rule(v, beta(len(ring)), ring) if inner else rule(v, Fraction(1, 8), [ring[0], ring[-1]])
 
 
 def at_limit(v, inner, ring):
-    if inner:
-        b = inner_limit(len(ring))
-        return rule(1 - len(ring) * b, v, b, ring)
-    b = Fraction(1, 5)
-    return rule(1 - 2 * b, v, b, [ring[0], ring[-1]])
+    return rule(v, inner_limit(len(ring)), ring) if inner else rule(v, Fraction(1, 5), [ring[0], ring[-1]])
 
 
 def far_corner(face, ends):

@@ -1,0 +1,18 @@
+"""Counts what holds. A gate script ends with `finish`, whose line the gate adds to its total."""
+import sys
+
+passed = failed = 0
+
+
+def expect(what, got, wanted=True):
+    global passed, failed
+    if got == wanted:
+        passed += 1
+    else:
+        failed += 1
+        print(f"failed: {what}" + ("" if wanted is True else f": {str(got)[:160]}, not {str(wanted)[:160]}"))
+
+
+def finish():
+    print(f"{passed} passed, {failed} failed")
+    sys.exit(failed > 0)
