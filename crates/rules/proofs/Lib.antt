@@ -17,3 +17,6 @@ pub mod Cage
 pub mod Spokes
 pub mod Weights
 pub mod Growth
+pub mod Related
+pub mod Bound
+pub mod Range

@@ -7,12 +7,12 @@ use mathlib.Core.Bool.{Bool, true, false}
 use mathlib.Core.List.{List, _++_}
 use mathlib.Core.Option.{Option, none, some}
 use lib.Dec.{leb, leb→le, nleb→lt}
-use lib.ListN.{length, getD, List·getD-append}
+use lib.ListN.{length, getD, length-append, List·getD-append}
 use lib.Seq.{getD-append-add}
 use Rattle.lists.specs.Lists.{count, gather}
-use Rattle.rules.specs.Mesh.{onward, backward, corner, links, firsts, firstOf, fan, Mesh}
+use Rattle.rules.specs.Mesh.{onward, backward, corner, links, firsts, firstOf, fan, Mesh, refined}
 use Rattle.rules.specs.Position.{Numbers, refining, limit, Stage}
-use Rattle.rules.specs.Levels.{coord, three, blended, moved, edgeAt, newPositions, limits}
+use Rattle.rules.specs.Levels.{coord, three, blended, moved, edgeAt, newPositions, limits, Level, finer, levels, positions}
 use Rattle.lists.proofs.Places.{length-count, getD-count, length-gather, getD-gather}
 use Rattle.rules.proofs.Refine.{Good, midOf}
 use Rattle.rules.proofs.Faces.{link-link, link-twins}
@@ -71,6 +71,17 @@ module _ (𝓝 : Numbers) (m : Mesh) (ls : List (Option ℕ)) (xs : List (𝓝 .
   unfolding moved
   old-length = length-gather (moved 𝓝 refining m ls xs) 3 (λ a. refl) (count 0 (m .verts)) ∙ ap (λ (z : ℕ). 3 * z) (length-count 0 (m .verts))
 
+  pub length-limits : length (limits 𝓝 m ls xs) ≡ 3 * m .verts
+  unfolding limits moved
+  length-limits = length-gather (moved 𝓝 limit m ls xs) 3 (λ a. refl) (count 0 (m .verts)) ∙ ap (λ (z : ℕ). 3 * z) (length-count 0 (m .verts))
+
+  pub length-new : length (newPositions 𝓝 m ls xs) ≡ 3 * (m .verts + length (firsts ls))
+  unfolding newPositions
+  length-new =
+      let f : ℕ → List (𝓝 .N) = λ s. three 𝓝 (edgeAt 𝓝 (m .faces) xs s (getD ls s none)) in
+      length-append (gather (moved 𝓝 refining m ls xs) (count 0 (m .verts))) (gather f (firsts ls))
+      ∙ omega (arith, old-length, length-gather f 3 (λ s. refl) (firsts ls))
+
   pub old-at : (u c : ℕ) → u < m .verts → c < 3 → coord 𝓝 (newPositions 𝓝 m ls xs) c u ≡ blended 𝓝 refining (m .faces) xs u (fan ls (getD (m .starts) u 0)) c
   unfolding newPositions
   old-at u c h k =
@@ -88,3 +99,13 @@ module _ (𝓝 : Numbers) (m : Mesh) (ls : List (Option ℕ)) (xs : List (𝓝 .
       ∙ getD-append-add a (gather f (firsts ls)) (3 * i + c) (𝓝 .nought)
       ∙ getD-gather f 3 (λ s. refl) (firsts ls) i c 0 (𝓝 .nought) h k
       ∙ three-at 𝓝 (edgeAt 𝓝 (m .faces) xs (getD (firsts ls) i 0) (getD ls (getD (firsts ls) i 0) none)) c k
+
+-- three coordinates to a vertex, at every level and at the limit
+pub length-levels : (𝓝 : Numbers) (l : ℕ) (a : Level 𝓝) → length (a .points) ≡ 3 * a .mesh .verts → length (levels 𝓝 l a .points) ≡ 3 * levels 𝓝 l a .mesh .verts
+unfolding levels finer refined
+length-levels 𝓝 zero a e = e
+length-levels 𝓝 (suc l) a e = length-levels 𝓝 l (finer 𝓝 a) (length-new 𝓝 (a .mesh) (links (a .mesh .faces)) (a .points))
+
+pub length-positions : (𝓝 : Numbers) (a : Level 𝓝) → length (positions 𝓝 a) ≡ 3 * a .mesh .verts
+unfolding positions
+length-positions 𝓝 a = length-limits 𝓝 (a .mesh) (links (a .mesh .faces)) (a .points)

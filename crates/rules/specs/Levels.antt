@@ -3,9 +3,11 @@ use Prim.Native.Nat.{ℕ, zero, suc, _+_, _*_, _/_, min, max}
 use mathlib.Core.List.{List, [], _∷_, _++_, map}
 use mathlib.Core.Option.{Option, none, some}
 use lib.ListN.{length, getD}
+use lib.IntN.{ℤ}
 use Rattle.lists.specs.Lists.{count, gather, lastOf}
+use Rattle.whole.specs.Fraction.{Fraction, ofWhole}
 use Rattle.rules.specs.Mesh.{onward, backward, corner, links, Fan, inner, rim, endless, fan, ring, Mesh, cage, firsts, refined}
-use Rattle.rules.specs.Position.{Stage, refining, limit, ringRule, rimRule, Numbers}
+use Rattle.rules.specs.Position.{Stage, refining, limit, ringRule, rimRule, Numbers, exact}
 
 -- the first and the last of a ring
 abbrev pub ends : List ℕ → List ℕ
@@ -70,6 +72,10 @@ module _ (𝓝 : Numbers) where
 
   unfoldable pub positions : Level → List (𝓝 .N)
   positions a = limits (a .mesh) (links (a .mesh .faces)) (a .points)
+
+-- "The exact limit position at L levels": the same rules from the control points, with no rounding at all
+abbrev pub exactLimits : ℕ → List ℕ → List ℤ → List Fraction
+exactLimits l fs xs = positions exact (last exact l fs (map ofWhole xs))
 
 -- ---- "With E edges, one level gives 4F faces, V+E vertices, 2E+3F edges"
 

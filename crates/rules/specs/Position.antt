@@ -54,16 +54,20 @@ abbrev pub sum : List ℤ → ℤ
 sum [] = pos 0
 sum (x ∷ xs) = x +ℤ sum xs
 
-abbrev pub whole : Numbers
-whole =
+-- by any way to round a whole number over another
+abbrev pub wholeBy : (ℤ → ℕ → ℤ) → Numbers
+wholeBy round =
     record {
       N = ℤ;
       nought = pos 0;
       allowed = inRange;
-      blend = λ r p qs. nearest (pos (own r (length qs)) *ℤ p +ℤ pos (each r) *ℤ sum qs) (outOf r);
-      halves = λ a b. nearest (a +ℤ b) 2;
-      eighths = λ a b c d. nearest (pos 3 *ℤ a +ℤ pos 3 *ℤ b +ℤ c +ℤ d) 8;
+      blend = λ r p qs. round (pos (own r (length qs)) *ℤ p +ℤ pos (each r) *ℤ sum qs) (outOf r);
+      halves = λ a b. round (a +ℤ b) 2;
+      eighths = λ a b c d. round (pos 3 *ℤ a +ℤ pos 3 *ℤ b +ℤ c +ℤ d) 8;
     }
+
+abbrev pub whole : Numbers
+whole = wholeBy nearest
 
 -- ---- fractions: "these same rules .. worked with no rounding at all"
 
