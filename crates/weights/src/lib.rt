@@ -1,0 +1,141 @@
+// Document 01, module 4: the weights of a vertex rule and of an edge, and the points that they give. The rules in f32; their twins in whole micrometres.
+use vectors::Vec3;
+ghost use mathlib.Core.Path.{_≡_};
+ghost use Prim.Native.Nat.{_<_, _≤_};
+ghost use Rattle.rules.specs.Position.{refining, limit, f32, beta, loopGamma};
+ghost use Rattle.weights.specs.Weights.{staged, ruleOf, carried, ringPoint, rimPoint, weightedPoint, halfPoint, eighthPoint};
+
+// Whether a vertex is moved to the next level, or to its limit.
+pub enum Stage {
+    Refining,
+    Limit,
+}
+
+// A vertex rule: a weight on each point of the ring, or on its first and its last.
+pub enum Rule {
+    Ring(f32),
+    Rim(f32),
+}
+
+impl Rule {
+    pub const VALENCE_THREE: f32 = 0.1875;
+
+    pub const RIM_REFINING: f32 = 0.125;
+
+    pub const RIM_LIMIT: f32 = 0.2;
+
+    pub const EDGE_RIM: f32 = 0.5;
+
+    pub const EDGE_END: f32 = 0.375;
+
+    pub const EDGE_FAR: f32 = 0.125;
+
+    pub fn refining(rim: bool, n: usize) -> Rule
+        requires { ⌜ n ≤ 16 ⌝ }
+        ensures { λ r. ⌜ r ≡ carried (ruleOf refining rim n) ⌝ }
+    {
+        if rim {
+            Rule::Rim(Rule::RIM_REFINING)
+        } else {
+            Rule::Ring(beta(n))
+        }
+    }
+
+    pub fn limit(rim: bool, n: usize) -> Rule
+        requires { ⌜ n ≤ 16 ⌝ }
+        ensures { λ r. ⌜ r ≡ carried (ruleOf limit rim n) ⌝ }
+    {
+        if rim {
+            Rule::Rim(Rule::RIM_LIMIT)
+        } else {
+            Rule::Ring(loop_gamma(n))
+        }
+    }
+
+    pub fn new(stage: Stage, rim: bool, n: usize) -> Rule
+        requires { ⌜ n ≤ 16 ⌝ }
+        ensures { λ r. ⌜ r ≡ carried (ruleOf (staged stage) rim n) ⌝ }
+    {
+        match stage {
+            Stage::Refining => Rule::refining(rim, n),
+            Stage::Limit => Rule::limit(rim, n),
+        }
+    }
+
+    // The vertex at p, by the first n points of its ring.
+    pub fn weighted(self, p: Vec3, ring: [Vec3; 16], n: usize) -> Vec3
+        requires { ⌜ (0 < n) × (n ≤ 16) ⌝ }
+        ensures { λ r. ⌜ r ≡ weightedPoint self p ring n ⌝ }
+    {
+        match self {
+            Rule::Ring(b) => weight_one_ring(p, ring, n, b),
+            Rule::Rim(b) => weight_boundary(p, ring, n, b),
+        }
+    }
+}
+
+fn number(n: usize) -> f32
+    requires { ⌜ n ≤ 16 ⌝ }
+    ensures { λ r. ⌜ r ≡ f32 n ⌝ }
+{
+    n as f32
+}
+
+pub fn beta(n: usize) -> f32
+    requires { ⌜ n ≤ 16 ⌝ }
+    ensures { λ r. ⌜ r ≡ beta n ⌝ }
+{
+    if n == 3 {
+        Rule::VALENCE_THREE
+    } else {
+        3.0 / (8.0 * number(n))
+    }
+}
+
+pub fn loop_gamma(n: usize) -> f32
+    requires { ⌜ n ≤ 16 ⌝ }
+    ensures { λ r. ⌜ r ≡ loopGamma n ⌝ }
+{
+    1.0 / (number(n) + 3.0 / (8.0 * beta(n)))
+}
+
+// "Own term first, then the ring in order."
+pub fn weight_one_ring(p: Vec3, ring: [Vec3; 16], n: usize, b: f32) -> Vec3
+    requires { ⌜ n ≤ 16 ⌝ }
+    ensures { λ r. ⌜ r ≡ ringPoint b p ring n ⌝ }
+{
+    let mut at = p.mul(1.0 - number(n) * b);
+    let mut i = 0usize;
+    while i < n {
+        let q = ring[i];
+        at = at.add(q.mul(b));
+        i += 1usize;
+    }
+    at
+}
+
+pub fn weight_boundary(p: Vec3, ring: [Vec3; 16], n: usize, b: f32) -> Vec3
+    requires { ⌜ (0 < n) × (n ≤ 16) ⌝ }
+    ensures { λ r. ⌜ r ≡ rimPoint b p ring n ⌝ }
+{
+    let own = p.mul(1.0 - 2.0 * b);
+    let end = n - 1;
+    let first = ring[0];
+    let last = ring[end];
+    own.add(first.mul(b)).add(last.mul(b))
+}
+
+// A rim edge, lower-numbered end first.
+pub fn edge_rim(a: Vec3, b: Vec3) -> Vec3
+    ensures { λ r. ⌜ r ≡ halfPoint a b ⌝ }
+{
+    a.mul(Rule::EDGE_RIM).add(b.mul(Rule::EDGE_RIM))
+}
+
+// An inner edge: lower-numbered end, higher, far corner of the first face, of the other.
+pub fn edge_inner(a: Vec3, b: Vec3, c: Vec3, d: Vec3) -> Vec3
+    ensures { λ r. ⌜ r ≡ eighthPoint a b c d ⌝ }
+{
+    let ends = a.mul(Rule::EDGE_END).add(b.mul(Rule::EDGE_END));
+    ends.add(c.mul(Rule::EDGE_FAR)).add(d.mul(Rule::EDGE_FAR))
+}
