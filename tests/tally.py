@@ -10,7 +10,7 @@ def expect(what, got, wanted=True):
         passed += 1
     else:
         failed += 1
-        print(f"failed: {what}" + ("" if wanted is True else f": {str(got)[:160]}, not {str(wanted)[:160]}"))
+        print(f"failed: {what}" + ("" if wanted is True else f": {got!r:.160}, not {wanted!r:.160}"))
 
 
 def finish():
