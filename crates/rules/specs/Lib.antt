@@ -6,3 +6,4 @@ pub mod Refusals
 pub mod Answers
 pub mod Sheets
 pub mod Cases
+pub mod Orders
