@@ -1,3 +1,4 @@
 pub mod Links
 pub mod Trips
 pub mod Trails
+pub mod Rings

@@ -2,7 +2,7 @@
 use mathlib.Core.Path.{_≡_, refl, sym, ap, _∙_, subst}
 use mathlib.Core.Logic.{_≢_}
 use Prim.Native.Nat.{ℕ, zero, suc, _+_, _-_, _*_, _/_, _≤_, _<_}
-use native.Mathlib.Nat.{not-suc-le-zero}
+use native.Mathlib.Nat.{not-suc-le-zero, le-of-suc-le-suc}
 use native.Mathlib.Decide.{decLt}
 use native.Mathlib.Omega.{arith}
 use mathlib.Core.List.{List}
@@ -170,3 +170,10 @@ module _ (ls : List (Option ℕ)) (n s : ℕ) (size : length ls / 3 ≡ n) where
       go closed f = absurd (let y = ap turnOf (sym f) ∙ q in let z : _≡_ {A = ℕ} 0 1 = cc in omega arith)
       go ended f = back (lastOf 0 (trail (nextCorner ls s) n (here s))) refl (stopOf (walk (prevCorner ls (lastOf 0 (trail (nextCorner ls s) n (here s)))) n (here (lastOf 0 (trail (nextCorner ls s) n (here s)))))) refl f
       go long f = absurd (let y = ap turnOf (sym f) ∙ q in let z : _≡_ {A = ℕ} 0 1 = cc in omega arith)
+
+-- what the walk of a ring asks, where the valence is in bounds
+pub inner-ends : (ls : List (Option ℕ)) (n s m : ℕ) → IsInner ls n s → valence (fan ls s) ≤ m → Ends (nextCorner ls s) n s m
+inner-ends ls n s m i h = record { stops = i .stops; few = rw (i .is) at h }
+
+pub rim-ends : (ls : List (Option ℕ)) (n s e m : ℕ) → IsRim ls n s e → valence (fan ls s) ≤ suc m → Ends (prevCorner ls e) n e m
+rim-ends ls n s e m i h = record { stops = i .stops; few = le-of-suc-le-suc (rw (i .is) at h) }

@@ -38,7 +38,7 @@ pub fn backward(s: usize) -> usize
 }
 
 // A walk is back at the corner where it began, off the rim, or on a further corner.
-pub enum Step {
+enum Step {
     Home,
     Off,
     Here(usize),
@@ -75,7 +75,7 @@ fn prev_corner(words: &[u32], links: usize, home: usize, s: usize) -> Step
 }
 
 // What a walk finds: after so many faces it is back; after so many it is off the rim, with the last corner; or it passes more than there are.
-pub enum Trip {
+enum Trip {
     Closed(usize),
     Ended(usize, usize),
     Long,
@@ -173,5 +173,87 @@ pub fn valence(t: Turn) -> usize
         Turn::Inner(n) => n,
         Turn::Rim(n, _) => n + 1,
         Turn::Endless => 0,
+    }
+}
+
+// The ring of an inner vertex: `next_vert` of each face, by `next_face` from corner s until it is back.
+fn inner_ring(words: &[u32], corners: usize, links: usize, nf: usize, s: usize) -> Ring
+    requires { ⌜ Walkable (now words) links nf s × (corners + 3 * nf ≤ length (now words)) × Ends (mesh.nextCorner (linksIn (now words) links (3 * nf)) s) nf s 16 ⌝ }
+    ensures { λ r. ⌜ r ≡ held (inners (part corners (3 * nf) (now (words .entry))) (mesh.passed (mesh.walk (mesh.nextCorner (linksIn (now (words .entry)) links (3 * nf)) s) nf (mesh.here s)))) false ⌝ }
+{
+    let none = VertNo(0);
+    let mut out = [none; 16];
+    let mut at = s;
+    let mut n: usize = 0;
+    loop {
+        out[n] = VertNo(words[corners + onward(at)]);
+        n = n + 1;
+        match next_corner(words, links, s, at) {
+            Step::Home => {
+                break;
+            }
+            Step::Off => {
+                break;
+            }
+            Step::Here(t) => {
+                at = t;
+            }
+        }
+    }
+    Ring {
+        v: out,
+        n: n,
+        rim: false,
+    }
+}
+
+// The ring of a rim vertex: `next_vert` of the face at its end corner, then `prev_vert` of each face by `prev_face`.
+fn rim_ring(words: &[u32], corners: usize, links: usize, nf: usize, end: usize) -> Ring
+    requires { ⌜ Walkable (now words) links nf end × (corners + 3 * nf ≤ length (now words)) × Ends (mesh.prevCorner (linksIn (now words) links (3 * nf)) end) nf end 15 ⌝ }
+    ensures { λ r. ⌜ r ≡ held (rimmed (part corners (3 * nf) (now (words .entry))) end (mesh.passed (mesh.walk (mesh.prevCorner (linksIn (now (words .entry)) links (3 * nf)) end) nf (mesh.here end)))) true ⌝ }
+{
+    let none = VertNo(0);
+    let mut out = [none; 16];
+    out[0] = VertNo(words[corners + onward(end)]);
+    let mut at = end;
+    let mut n: usize = 0;
+    loop {
+        n = n + 1;
+        out[n] = VertNo(words[corners + backward(at)]);
+        match prev_corner(words, links, end, at) {
+            Step::Home => {
+                break;
+            }
+            Step::Off => {
+                break;
+            }
+            Step::Here(t) => {
+                at = t;
+            }
+        }
+    }
+    Ring {
+        v: out,
+        n: n + 1,
+        rim: true,
+    }
+}
+
+// The ring of the vertex of corner s.
+pub fn one_ring(words: &[u32], corners: usize, links: usize, nf: usize, s: usize) -> Ring
+    requires { ⌜ Ringable (now words) corners links nf s ⌝ }
+    ensures { λ r. ⌜ r ≡ ringOf (part corners (3 * nf) (now (words .entry))) (mesh.fan (linksIn (now (words .entry)) links (3 * nf)) s) ⌝ }
+{
+    match turn_round(words, links, nf, s) {
+        Turn::Inner(_) => inner_ring(words, corners, links, nf, s),
+        Turn::Rim(_, end) => rim_ring(words, corners, links, nf, end),
+        Turn::Endless => {
+            let none = VertNo(0);
+            Ring {
+                v: [none; 16],
+                n: 0,
+                rim: false,
+            }
+        }
     }
 }
