@@ -1,0 +1,24 @@
+use mathlib.Core.Bool.{true}
+use mathlib.Core.Path.{_≡_, refl, sym, ap, _∙_}
+use lib.Ieee.{binary32, ofBits, ofInt, le, neg}
+use Rattle.rules.specs.Position.{farthest}
+use Rattle.cage.proofs.Search.{and-left}
+use Rattle.cage.proofs.allowed.Statement.{statement}
+use Rattle.cage.proofs.allowed.Tie as tie
+use Rattle.cage.proofs.allowed.Reads as reads
+use Rattle.cage.proofs.allowed.Lts as lts
+
+bound : ofBits binary32 1400897536 ≡ farthest
+unfolding ofBits ofInt
+bound = refl
+
+-- src/lib.rt:66:1
+returns : tie.Need-returns
+returns c = let t : le (c .before .args .x) farthest ≡ true = rw bound at (c .if1 .taken) in rw (bound, t)
+
+-- src/lib.rt:66:1
+returns-2 : tie.Need-returns-2
+returns-2 c = rw bound (and-left _ _ (rw bound at (c .if1 .left)))
+
+pub allowed-spec : {M : Type 1} → statement M
+allowed-spec = tie.close (tie.spec returns returns-2)

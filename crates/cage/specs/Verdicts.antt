@@ -1,0 +1,9 @@
+-- What a stage of the checks answers. Assumes nothing.
+use mathlib.Core.Option.{Option, none, some}
+use Rattle.rules.specs.declared.Refusal.{Refusal}
+use Rattle.cage.specs.declared.Check.{Check}
+use Rattle.cage.specs.declared.Check.the-variants.{Pass, No}
+
+abbrev pub verdictOf : Option Refusal → Check
+verdictOf none = Pass
+verdictOf (some r) = No r
