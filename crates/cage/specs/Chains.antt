@@ -1,12 +1,13 @@
 -- Sides by the vertex they leave, chained from each to the one before it. Assumes nothing.
-use Prim.Native.Nat.{ℕ, zero, suc, _%_, _≤_, _<_}
+use Prim.Native.Nat.{ℕ, zero, suc, _+_, _*_, _%_, _≤_, _<_}
 use mathlib.Core.Path.{_≡_}
-use mathlib.Core.Bool.{Bool}
+use mathlib.Core.Bool.{Bool, false, _&&_}
 use mathlib.Core.List.{List}
-use lib.Dec.{eqb}
+use mathlib.Core.Option.{Option, none, some}
+use lib.Dec.{eqb, ltb}
 use lib.ListN.{length, getD}
 use Rattle.lists.specs.Lists.{pick}
-use Rattle.rules.specs.Mesh.{corner, side}
+use Rattle.rules.specs.Mesh.{backward, corner, side}
 use Rattle.rules.specs.Refusals.{same}
 
 -- one past the last number below n that passes, or 0 where none does
@@ -37,3 +38,8 @@ pub record Heads (fs : List ℕ) (n : ℕ) (heads : List ℕ) : Type 0 where
 pub record Chained (fs : List ℕ) (n : ℕ) (nexts : List ℕ) : Type 0 where
   pub room : length fs ≤ length nexts
   pub next : (s : ℕ) → s < n → getD nexts s 0 ≡ lastBelow (leaves fs (corner fs s)) s
+
+-- the side across side 0 of face f is one of an earlier face with the same far corner
+abbrev pub foldsBack : List ℕ → ℕ → Option ℕ → Bool
+foldsBack fs f none = false
+foldsBack fs f (some t) = ltb t (3 * f) && eqb (corner fs (backward t)) (corner fs (3 * f + 2))

@@ -21,7 +21,7 @@ use Rattle.lists.proofs.Places.{find-none, lowest-none, not-found}
 use Rattle.rules.proofs.Sides.{on-back, on-twice, on-below, Twins, length-sides, getD-sides}
 use Rattle.rules.proofs.Refine.{Good, Third, third, k0, k1, k2, back-below}
 
-check-none : (k : ℕ) (o : Option ℕ) → check k o ≡ none → o ≡ none
+pub check-none : (k : ℕ) (o : Option ℕ) → check k o ≡ none → o ≡ none
 check-none k none e = refl
 check-none k (some i) e = absurd (let z : _≡_ {A = ℕ} 0 1 = cc in omega arith)
 
@@ -71,7 +71,7 @@ module _ (fs : List ℕ) (n : ℕ) (size : length fs ≡ 3 * n) where
       let l = nor-l (eqb a b || eqb b c) (eqb c a) t in
       (differ a b (nor-l (eqb a b) (eqb b c) l), differ b c (nor-r (eqb a b) (eqb b c) l), differ c a (nor-r (eqb a b || eqb b c) (eqb c a) t))
 
-  apart-side : lowest (equalCorners fs) n ≡ none → (s : ℕ) → s < 3 * n → corner fs s ≢ corner fs (onward s)
+  pub apart-side : lowest (equalCorners fs) n ≡ none → (s : ℕ) → s < 3 * n → corner fs s ≢ corner fs (onward s)
   apart-side e s h = go (third s)
     where
       face : (f : ℕ) → f < n → (corner fs (3 * f) ≢ corner fs (3 * f + 1)) × (corner fs (3 * f + 1) ≢ corner fs (3 * f + 2)) × (corner fs (3 * f + 2) ≢ corner fs (3 * f))
@@ -93,7 +93,7 @@ module _ (fs : List ℕ) (n : ℕ) (size : length fs ≡ 3 * n) where
       let b : getD ss s nowhere ≡ side fs s = getD-sides fs s nowhere (omega arith) in
       T-not (same (side fs s) (side fs t)) (rw (a, b) at r) (and-i (eqb (corner fs s) (corner fs t)) (eqb (corner fs (onward s)) (corner fs (onward t))) (eq→eqb p) (eq→eqb q))
 
-  unique-sides : lowest (usedBefore (sides fs)) (3 * n) ≡ none → (s t : ℕ) → s < 3 * n → t < 3 * n → corner fs s ≡ corner fs t → corner fs (onward s) ≡ corner fs (onward t) → s ≡ t
+  pub unique-sides : lowest (usedBefore (sides fs)) (3 * n) ≡ none → (s t : ℕ) → s < 3 * n → t < 3 * n → corner fs s ≡ corner fs t → corner fs (onward s) ≡ corner fs (onward t) → s ≡ t
   unique-sides e s t h k p q =
       let x : ¬ (t < s) = λ l. earlier e s t h l p q in
       let y : ¬ (s < t) = λ l. earlier e t s k l (sym p) (sym q) in
@@ -144,7 +144,7 @@ module _ (fs : List ℕ) (n : ℕ) (size : length fs ≡ 3 * n) where
           (subst P y b, subst P z c, subst P x a)
 
   -- the face of t has the corner set of the face of s
-  set-of : (s t : ℕ) → corner fs t ≡ corner fs (onward s) → corner fs (onward t) ≡ corner fs s → corner fs (backward t) ≡ corner fs (backward s) → T (sameSet fs (s / 3) (t / 3))
+  pub set-of : (s t : ℕ) → corner fs t ≡ corner fs (onward s) → corner fs (onward t) ≡ corner fs s → corner fs (backward t) ≡ corner fs (backward s) → T (sameSet fs (s / 3) (t / 3))
   set-of s t p q r =
       let f = s / 3 in
       let h : ℕ → Bool = λ y. has (corner fs (3 * f)) (corner fs (3 * f + 1)) (corner fs (3 * f + 2)) (corner fs y) in

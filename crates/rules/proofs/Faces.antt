@@ -46,7 +46,7 @@ or-cases : (a b : Bool) {X : Type 0} → T (a || b) → (T a → X) → (T b →
 or-cases true b t f g = f t
 or-cases false b t f g = g t
 
-has-at : (fs : List ℕ) (f x : ℕ) → T (has (corner fs (3 * f)) (corner fs (3 * f + 1)) (corner fs (3 * f + 2)) x) → OnFace fs f x
+pub has-at : (fs : List ℕ) (f x : ℕ) → T (has (corner fs (3 * f)) (corner fs (3 * f + 1)) (corner fs (3 * f + 2)) x) → OnFace fs f x
 has-at fs f x t =
     let a = corner fs (3 * f) in
     let b = corner fs (3 * f + 1) in
