@@ -4,22 +4,22 @@ use mathlib.Core.Logic.{_≢_}
 use Prim.Native.Nat.{ℕ, zero, suc, _+_, _-_, _*_, _/_, _≤_, _<_}
 use native.Mathlib.Omega.{arith}
 use mathlib.Core.Bool.{Bool, true, false, not, _&&_}
-use mathlib.Core.List.{List}
+use mathlib.Core.List.{List, map}
 use mathlib.Core.Option.{Option, none, some}
 use lib.Dec.{T, T-not, not-T, eqb, ltb, eqb→eq, ltb→lt, lt→ltb}
 use lib.Ieee.Fits.{and-i, and-l, and-r, eq→eqb}
-use lib.ListN.{length, getD}
+use lib.ListN.{length, getD, take, length-map}
+use lib.Seq.{getD-take}
 use Rattle.lists.specs.Lists.{count, find, lowest, found}
-use Rattle.lists.proofs.Places.{length-count, getD-count, find-some, lowest-none}
+use Rattle.lists.proofs.Places.{length-count, getD-count, getD-map, find-some, lowest-none}
 use Rattle.rules.specs.Mesh.{onward, backward, corner, side, links}
 use Rattle.rules.specs.Refusals.{has, sameSet}
-use Rattle.rules.proofs.Sides.{Twins, Unique, twin-some, twin-is}
+use Rattle.rules.proofs.Sides.{length-links, Twins, Unique, twin-some, twin-is}
 use Rattle.rules.proofs.Refine.{Third, third, k0, k1, k2}
 use Rattle.rules.proofs.Checks.{set-of}
 use Rattle.rules.proofs.Faces.{Turn, turn, same, on, back, OnFace, has-at}
-use Rattle.faces.specs.Words.{coded}
+use Rattle.faces.specs.Words.{linkOf, coded}
 use Rattle.cage.specs.Chains.{lastBelow, runs, foldsBack}
-use Rattle.cage.proofs.Search.{passed}
 use Rattle.cage.proofs.Chains.{last-at, last-nowhere}
 
 true-of : (b : Bool) → T b → b ≡ true
@@ -45,9 +45,6 @@ module _ (fs : List ℕ) (u : Unique fs) (s : ℕ) (h : s < length fs) where
   pub link-word : coded (getD (links fs) s none) ≡ lastBelow (runs fs (corner fs (onward s)) (corner fs s)) (length fs)
   link-word = go (getD (links fs) s none) refl
     where
-      p : ℕ → Bool
-      p = runs fs (corner fs (onward s)) (corner fs s)
-
       is : (t k : ℕ) → getD (links fs) s none ≡ some t → k < length fs → T (runs fs (corner fs (onward s)) (corner fs s) k) → k ≡ t
       is t k e l r = let z = twin-is fs u s k h (run-twins k l r) in cc
 
@@ -57,6 +54,32 @@ module _ (fs : List ℕ) (u : Unique fs) (s : ℕ) (h : s < length fs) where
       go (some t) e =
           let w = twin-some fs s t h e in
           sym (last-at (runs fs (corner fs (onward s)) (corner fs s)) (length fs) t (w .below) (twins-run t w) (λ j a l. false-of _ (λ r. let z = is t j e l r in omega arith)))
+
+-- ---- words that hold the links
+
+pub link-coded : (o : Option ℕ) → linkOf (coded o) ≡ o
+link-coded none = refl
+link-coded (some t) = refl
+
+pub length-words : (fs : List ℕ) → length (map coded (links fs)) ≡ length fs
+length-words fs = length-map (links fs) coded ∙ length-links fs
+
+pub coded-at : (fs : List ℕ) (s : ℕ) → s < length fs → getD (map coded (links fs)) s 0 ≡ coded (getD (links fs) s none)
+coded-at fs s h = getD-map coded (links fs) s none 0 (rw (length-links fs) h)
+
+pub coded-le : (fs : List ℕ) (s : ℕ) → s < length fs → coded (getD (links fs) s none) ≤ length fs
+coded-le fs s h = go (getD (links fs) s none) refl
+  where
+    go : (o : Option ℕ) → getD (links fs) s none ≡ o → coded o ≤ length fs
+    go none e = omega arith
+    go (some t) e = twin-some fs s t h e .below
+
+module _ (fs w : List ℕ) (e : take (length fs) w ≡ map coded (links fs)) where
+  pub word-at : (s : ℕ) → s < length fs → getD w s 0 ≡ coded (getD (links fs) s none)
+  word-at s h = sym (getD-take (length fs) w s 0 h) ∙ ap (λ (l : List ℕ). getD l s 0) e ∙ coded-at fs s h
+
+  pub word-le : (s : ℕ) → s < length fs → getD w s 0 ≤ length fs
+  word-le s h = rw (word-at s h) (coded-le fs s h)
 
 -- ---- check 8, of faces whose corners differ and whose sides are used once
 

@@ -1,13 +1,14 @@
 -- Sides by the vertex they leave, chained from each to the one before it. Assumes nothing.
 use Prim.Native.Nat.{ℕ, zero, suc, _+_, _*_, _%_, _≤_, _<_}
 use mathlib.Core.Path.{_≡_}
+use mathlib.Core.Logic.{_≢_}
 use mathlib.Core.Bool.{Bool, false, _&&_}
 use mathlib.Core.List.{List}
 use mathlib.Core.Option.{Option, none, some}
 use lib.Dec.{eqb, ltb}
 use lib.ListN.{length, getD}
 use Rattle.lists.specs.Lists.{pick}
-use Rattle.rules.specs.Mesh.{backward, corner, side}
+use Rattle.rules.specs.Mesh.{onward, backward, corner, side}
 use Rattle.rules.specs.Refusals.{same}
 
 -- one past the last number below n that passes, or 0 where none does
@@ -30,6 +31,14 @@ pub record Faces (fs : List ℕ) : Type 0 where
 -- and after check 5
 pub record Below (v : ℕ) (fs : List ℕ) : Type 0 where
   pub each : (s : ℕ) → s < length fs → corner fs s < v
+
+-- and after check 6
+pub record Apart (fs : List ℕ) : Type 0 where
+  pub each : (s : ℕ) → s < length fs → corner fs s ≢ corner fs (onward s)
+
+-- and after check 7
+pub record Once (fs : List ℕ) : Type 0 where
+  pub each : (s t : ℕ) → s < length fs → t < length fs → corner fs s ≡ corner fs t → corner fs (onward s) ≡ corner fs (onward t) → s ≡ t
 
 -- of the first n sides: the last that leaves each vertex, and before each of them the last that leaves the same vertex
 pub record Heads (fs : List ℕ) (n : ℕ) (heads : List ℕ) : Type 0 where

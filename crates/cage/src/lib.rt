@@ -2,15 +2,17 @@
 // remember stands in local arrays.
 ghost use mathlib.Core.Path.{_≡_};
 ghost use Prim.Native.Nat.{ℕ, _+_, _-_, _*_, _/_, _%_, _≤_, _<_};
-ghost use mathlib.Core.List.{List};
-ghost use lib.ListN.{length, getD};
+ghost use mathlib.Core.List.{List, map};
+ghost use lib.ListN.{length, getD, take};
+ghost use lib.Seq.{sets};
 ghost use lib.Dec.{leb};
-ghost use Rattle.lists.specs.Lists.{find, lowest};
+ghost use Rattle.lists.specs.Lists.{find, lowest, found};
 ghost use Rattle.rules.specs.Position.{whole, single};
-ghost use Rattle.rules.specs.Mesh.{onward, corner, sides};
-ghost use Rattle.rules.specs.Refusals.{check, equalCorners, usedBefore, shapeRefusal, rangeRefusal};
+ghost use Rattle.rules.specs.Mesh.{onward, corner, sides, links};
+ghost use Rattle.rules.specs.Refusals.{check, equalCorners, usedBefore, sameSet, shapeRefusal, rangeRefusal};
+ghost use Rattle.faces.specs.Words.{linkOf, coded};
 ghost use Rattle.cage.specs.Verdicts.{verdictOf};
-ghost use Rattle.cage.specs.Chains.{lastBelow, runs, Faces, Below, Heads, Chained};
+ghost use Rattle.cage.specs.Chains.{lastBelow, runs, Faces, Below, Apart, Once, Heads, Chained, foldsBack};
 use rules::Refusal;
 
 pub enum Check {
@@ -136,7 +138,7 @@ fn end_of(indices: &[u32], s: usize) -> u32
     requires { ⌜ Faces (now indices) × (s < length (now indices)) ⌝ }
     ensures { λ r. ⌜ r ≡ corner (now (indices .entry)) (onward s) ⌝ }
 {
-    indices[3 * (s / 3) + (s + 1) % 3]
+    indices[faces::onward(s)]
 }
 
 // Of the sides that leave a vertex, heads holds one past the last; of each side, nexts holds one past the one before it at its vertex. 0 is none.
@@ -185,6 +187,55 @@ fn reused(indices: &[u32], nexts: &[u32]) -> Check
             return no(7, s as u32);
         }
         s = s + 1;
+    }
+    Check::Pass
+}
+
+// The link word of each side: along the chain of the sides that leave its end, the one that comes back.
+fn put_links(indices: &[u32], heads: &[u32], nexts: &[u32], words: &mut [u32], at: usize)
+    requires sizes { ⌜ Faces (now indices) × Below (length (now heads)) (now indices) × (at + length (now indices) ≤ length (now words)) ⌝ }
+    requires chains { ⌜ Heads (now indices) (length (now indices)) (now heads) × Chained (now indices) (length (now indices)) (now nexts) ⌝ }
+    requires once { ⌜ Once (now indices) ⌝ }
+    ensures { λ r. ⌜ now (words .exit) ≡ sets (now (words .entry)) at (map coded (links (now (indices .entry)))) ⌝ }
+{
+    let mut s = 0;
+    while s < indices.len() {
+        let b = end_of(indices, s) as usize;
+        let t = seek(indices, nexts, heads[b], indices[s]);
+        words[at + s] = t;
+        s = s + 1;
+    }
+}
+
+// Does face f have the corner set of an earlier face, if its side 0 has this link word?
+fn folds_back(indices: &[u32], f: usize, link: u32) -> bool
+    requires { ⌜ Faces (now indices) × (3 * f + 2 < length (now indices)) × (link ≤ length (now indices)) ⌝ }
+    ensures { λ r. ⌜ r ≡ foldsBack (now (indices .entry)) f (linkOf link) ⌝ }
+{
+    if link == 0 {
+        return false;
+    }
+    let t = (link - 1) as usize;
+    if t < 3 * f {
+        indices[faces::backward(t)] == indices[3 * f + 2]
+    } else {
+        false
+    }
+}
+
+// 8: after 6 and 7, a face with the corner set of an earlier one is that face turned over, so it lies across side 0.
+fn doubled(indices: &[u32], words: &[u32]) -> Check
+    requires sizes { ⌜ Faces (now indices) × (length (now indices) ≤ length (now words)) ⌝ }
+    requires links { ⌜ take (length (now indices)) (now words) ≡ map coded (links (now indices)) ⌝ }
+    requires once { ⌜ Apart (now indices) × Once (now indices) ⌝ }
+    ensures { λ r. ⌜ r ≡ verdictOf (check 8 (lowest (λ f. found (lowest (sameSet (now (indices .entry)) f) f)) (length (now (indices .entry)) / 3))) ⌝ }
+{
+    let mut f = 0;
+    while f < indices.len() / 3 {
+        if folds_back(indices, f, words[3 * f]) {
+            return no(8, f as u32);
+        }
+        f = f + 1;
     }
     Check::Pass
 }

@@ -103,3 +103,10 @@ module _ {A B : Type 0} where
       sets (sets l at (gather g xs)) i (g x) ≡ sets l at (gather g (xs ++ (x ∷ [])))
   sets-gather g xs x l at i e =
       rw (← e, gather-append g xs (x ∷ []), append-nil (g x)) (sets-append (gather g xs) (g x) l at)
+
+module _ {ℓ} {A : Type ℓ} where
+  -- one entry of a copy from `at` on
+  pub copy-at : (l w : List A) (at k : ℕ) (d : A) → k < length w → set (sets l at (take k w)) (at + k) (getD w k d) ≡ sets l at (take (k + 1) w)
+  copy-at l w at k d h =
+      let e : at + length (take k w) ≡ at + k = ap (λ (n : ℕ). at + n) (length-take-le k w (omega arith)) in
+      rw (add-one, take-suc w k d h) (rw e at (sets-append (take k w) (getD w k d ∷ []) l at))
