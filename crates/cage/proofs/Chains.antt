@@ -194,6 +194,6 @@ used-is fs s h =
     let d : Side = record { from = 0; to = 0 } in
     let n : length (take s ss) ≡ s = length-take-le s ss (omega (arith, length-sides fs)) in
     rw (getD-sides fs s d h) (
-      found-last (same (side fs s)) d (take s ss) (runs fs (corner fs s) (corner fs (onward s)))
-      (λ k l. let b : k < s = rw n at l in sym (ap (same (side fs s)) (getD-take s ss k d b ∙ getD-sides fs k d (omega arith))))
-      ∙ ap (λ (m : ℕ). ltb 0 (lastBelow (runs fs (corner fs s) (corner fs (onward s))) m)) n)
+    found-last (same (side fs s)) d (take s ss) (runs fs (corner fs s) (corner fs (onward s)))
+    (λ k l. let b : k < s = rw n at l in sym (ap (same (side fs s)) (getD-take s ss k d b ∙ getD-sides fs k d (omega arith))))
+    ∙ ap (λ (m : ℕ). ltb 0 (lastBelow (runs fs (corner fs s) (corner fs (onward s))) m)) n)

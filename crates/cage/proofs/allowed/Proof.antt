@@ -12,11 +12,9 @@ bound : ofBits binary32 1400897536 ≡ farthest
 unfolding ofBits ofInt
 bound = refl
 
--- src/lib.rt:66:1
 returns : tie.Need-returns
 returns c = let t : le (c .before .args .x) farthest ≡ true = rw bound at (c .if1 .taken) in rw (bound, t)
 
--- src/lib.rt:66:1
 returns-2 : tie.Need-returns-2
 returns-2 c = rw bound (and-left _ _ (rw bound at (c .if1 .left)))
 

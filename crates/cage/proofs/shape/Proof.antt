@@ -16,52 +16,41 @@ use Rattle.cage.proofs.shape.Reads as reads
 use Rattle.cage.proofs.shape.Lts as lts
 use Rattle.cage.proofs.no.Reads as no-reads
 
--- src/lib.rt:33:9
 no-requires : tie.Need-no-requires
 no-requires c κs = search needs
 
--- src/lib.rt:33:9
 returns : tie.Need-returns
 unfolding shapeRefusal
 returns c = simp (c .no .ensures, lt-ltb _ _ (c .before .if1 .taken))
 
--- src/lib.rt:36:9
 no-requires-2 : tie.Need-no-requires-2
 no-requires-2 c κs = search needs
 
--- src/lib.rt:36:9
 returns-2 : tie.Need-returns-2
 unfolding shapeRefusal
 returns-2 c = simp (c .no2 .ensures, le-ltb _ _ (c .before .before .if1 .left), ne-eqb _ _ (c .before .if2 .taken))
 
--- src/lib.rt:39:9
 no-requires-3 : tie.Need-no-requires-3
 no-requires-3 c κs = search needs
 
--- src/lib.rt:39:9
 returns-3 : tie.Need-returns-3
 unfolding shapeRefusal
 returns-3 c = simp (c .no3 .ensures, le-ltb _ _ (c .before .before .before .if1 .left), eq-eqb _ _ (c .before .before .if2 .left), ne-eqb _ _ (c .before .if3 .taken))
 
--- src/lib.rt:42:9
 no-requires-4 : tie.Need-no-requires-4
 no-requires-4 c κs = search needs
 
--- src/lib.rt:42:9
 returns-4 : tie.Need-returns-4
 unfolding shapeRefusal
 returns-4 c = simp (c .no4 .ensures, le-ltb _ _ (c .before .before .before .before .if1 .left), eq-eqb _ _ (c .before .before .before .if2 .left), eq-eqb _ _ (c .before .before .if3 .left), lt-ltb _ _ (c .before .if4 .taken))
 
--- src/lib.rt:45:9
 no-requires-5 : tie.Need-no-requires-5
 no-requires-5 c κs = search needs
 
--- src/lib.rt:45:9
 returns-5 : tie.Need-returns-5
 unfolding shapeRefusal
 returns-5 c = simp (c .no5 .ensures, le-ltb _ _ (c .before .before .before .before .before .if1 .left), eq-eqb _ _ (c .before .before .before .before .if2 .left), eq-eqb _ _ (c .before .before .before .if3 .left), le-ltb _ _ (c .before .before .if4 .left), lt-ltb _ _ (c .before .if5 .taken))
 
--- src/lib.rt:29:1
 returns-6 : tie.Need-returns-6
 unfolding shapeRefusal
 returns-6 c = simp (le-ltb _ _ (c .before .before .before .before .if1 .left), eq-eqb _ _ (c .before .before .before .if2 .left), eq-eqb _ _ (c .before .before .if3 .left), le-ltb _ _ (c .before .if4 .left), le-ltb _ _ (c .if5 .left))

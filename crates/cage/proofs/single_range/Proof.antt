@@ -25,48 +25,37 @@ Inv-loop coords i₀ i = (i ≤ length coords) × ((j : ℕ) → j < i → singl
 abbrev μ-loop : tie.MeasureT-loop
 μ-loop coords i₀ i = length coords - i
 
--- src/lib.rt:77:5
 loop-holds : tie.Need-loop-holds Inv-loop μ-loop
 loop-holds c = (omega arith, λ j h. absurd (omega arith))
 
--- src/lib.rt:78:21
 mul-allowed : tie.Need-mul-allowed Inv-loop μ-loop
 mul-allowed c = search needs
 
--- src/lib.rt:78:21
 shared-slice-read-allowed : tie.Need-shared-slice-read-allowed Inv-loop μ-loop
 shared-slice-read-allowed c = search needs
 
--- src/lib.rt:78:13
 allowed-requires : tie.Need-allowed-requires Inv-loop μ-loop
 allowed-requires c κs = search needs
 
--- src/lib.rt:79:26
 cast-no : tie.Need-cast-no Inv-loop μ-loop
 cast-no c = search needs
 
--- src/lib.rt:79:13
 no-requires : tie.Need-no-requires Inv-loop μ-loop
 no-requires c κs = search needs
 
--- src/lib.rt:79:13
 returns : tie.Need-returns Inv-loop μ-loop
 unfolding rangeRefusal
 returns c = c .no .ensures ∙ sym (find-here 4 (λ x. not (single .allowed x)) nan (now (c .before .before .before .before .before .before .before .args .coords)) (c .before .before .before .before .before .loop .i) (omega arith) (sym (ap not (c .before .before .allowed .ensures)) ∙ c .before .if1 .taken) (λ j h. ap not (c .before .before .before .before .before .loop .inv .1 j h)))
 
--- src/lib.rt:81:13
 add-i : tie.Need-add-i Inv-loop μ-loop
 add-i c = search needs
 
--- src/lib.rt:77:5
 loop-less : tie.Need-loop-less Inv-loop μ-loop
 loop-less c = search needs
 
--- src/lib.rt:77:5
 loop-again : tie.Need-loop-again Inv-loop μ-loop
 loop-again c = (omega arith, below-more _ _ (c .before .before .before .before .loop .inv .1) (sym (c .before .allowed .ensures) ∙ not-false _ (c .if1 .left)))
 
--- src/lib.rt:72:1
 returns-2 : tie.Need-returns-2 Inv-loop μ-loop
 unfolding rangeRefusal
 returns-2 c = sym (find-nowhere 4 (λ x. not (single .allowed x)) nan (now (c .before .before .before .args .coords)) (λ j h. ap not (c .before .loop .inv .1 j (omega arith))))

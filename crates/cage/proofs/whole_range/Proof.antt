@@ -35,31 +35,24 @@ is-range k =
     let x = getD (now (k .before .before .before .before .args .coords)) (k .before .before .before .loop .i) (pos 0) in
     ap inRange (sym (toZ-ofZ w32 x (record { sfits = k .before .in-range-arg .given }))) ∙ sym (k .in-range .ensures)
 
--- src/lib.rt:56:5
 loop-holds : tie.Need-loop-holds Inv-loop μ-loop
 loop-holds c = (omega arith, λ j h. absurd (omega arith))
 
--- src/lib.rt:57:29
 mul-in-range : tie.Need-mul-in-range Inv-loop μ-loop
 mul-in-range c = search needs
 
--- src/lib.rt:57:29
 shared-slice-copy-out-in-range : tie.Need-shared-slice-copy-out-in-range Inv-loop μ-loop
 shared-slice-copy-out-in-range c = search needs
 
--- src/lib.rt:57:13
 in-range-requires : tie.Need-in-range-requires Inv-loop μ-loop
 in-range-requires c κs = search needs
 
--- src/lib.rt:58:26
 cast-no : tie.Need-cast-no Inv-loop μ-loop
 cast-no c = search needs
 
--- src/lib.rt:58:13
 no-requires : tie.Need-no-requires Inv-loop μ-loop
 no-requires c κs = search needs
 
--- src/lib.rt:58:13
 returns : tie.Need-returns Inv-loop μ-loop
 unfolding rangeRefusal
 returns c =
@@ -67,19 +60,15 @@ returns c =
     let l = c .before .before .before .before .before .loop in
     c .no .ensures ∙ sym (find-here 4 (λ x. not (inRange x)) (pos 0) w (l .i) (omega arith) (ap not (is-range (c .before .before)) ∙ c .before .if1 .taken) (λ j h. ap not (l .inv .1 j h)))
 
--- src/lib.rt:60:13
 add-i : tie.Need-add-i Inv-loop μ-loop
 add-i c = search needs
 
--- src/lib.rt:56:5
 loop-less : tie.Need-loop-less Inv-loop μ-loop
 loop-less c = search needs
 
--- src/lib.rt:56:5
 loop-again : tie.Need-loop-again Inv-loop μ-loop
 loop-again c = (omega arith, below-more _ _ (c .before .before .before .before .loop .inv .1) (is-range (c .before) ∙ not-false _ (c .if1 .left)))
 
--- src/lib.rt:51:1
 returns-2 : tie.Need-returns-2 Inv-loop μ-loop
 unfolding rangeRefusal
 returns-2 c = sym (find-nowhere 4 (λ x. not (inRange x)) (pos 0) (now (c .before .before .args .coords)) (λ j h. ap not (c .before .loop .inv .1 j (omega arith))))

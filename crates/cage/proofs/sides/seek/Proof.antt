@@ -10,11 +10,11 @@ use lib.Dec.{eqb}
 use Rattle.lists.specs.Lists.{pick}
 use borrow.Author.Tests.{eq-eqb, ne-eqb, eqb-true}
 use Rattle.cage.proofs.Chains.{last-le, last-is, last-none, runs-turn, runs-next}
-use Rattle.cage.proofs.seek.Statement.{statement}
-use Rattle.cage.proofs.seek.Tie as tie
-use Rattle.cage.proofs.seek.Reads as reads
-use Rattle.cage.proofs.seek.Lts as lts
-use Rattle.cage.proofs.end_of.Reads as end-of-reads
+use Rattle.cage.proofs.sides.seek.Statement.{statement}
+use Rattle.cage.proofs.sides.seek.Tie as tie
+use Rattle.cage.proofs.sides.seek.Reads as reads
+use Rattle.cage.proofs.sides.seek.Lts as lts
+use Rattle.cage.proofs.sides.end_of.Reads as end-of-reads
 
 abbrev Inv-loop : tie.InvT-loop
 Inv-loop indices nexts head b h₀ h = (h ≤ head) × (lastBelow (runs indices (corner indices (head - 1)) b) head ≡ lastBelow (runs indices (corner indices (head - 1)) b) h) × (0 < h → corner indices (h - 1) ≡ corner indices (head - 1))
@@ -54,53 +54,42 @@ nxt-le k =
     let a = k .before .before .before .before .before .args in
     rw (nxt k) (last-le (leaves (now (a .indices)) (corner (now (a .indices)) (a .head - 1))) (k .before .before .loop .h - 1))
 
--- src/lib.rt:165:5
 loop-holds : tie.Need-loop-holds Inv-loop μ-loop
 loop-holds c = (omega arith, refl, λ l. refl)
 
--- src/lib.rt:166:18
 sub-k : tie.Need-sub-k Inv-loop μ-loop
 sub-k c = omega arith
 
--- src/lib.rt:166:17
 cast-k : tie.Need-cast-k Inv-loop μ-loop
 cast-k c = search needs
 
--- src/lib.rt:167:12
 end-of-requires : tie.Need-end-of-requires Inv-loop μ-loop
 end-of-requires c κs = (c .before .before .before .before .pre .0 .0, omega (arith, c .before .before .before .before .pre .0))
 
--- src/lib.rt:168:13
 returns : tie.Need-returns Inv-loop μ-loop
 returns c = sym (turn (c .before) ∙ rw (eq-eqb _ _ (sym (c .if1 .taken) ∙ c .before .end-of .ensures)))
 
--- src/lib.rt:170:13
 mul-h : tie.Need-mul-h Inv-loop μ-loop
 mul-h c = omega (arith, c .before .before .before .before .before .before .pre .0)
 
--- src/lib.rt:170:13
 shared-slice-read-h : tie.Need-shared-slice-read-h Inv-loop μ-loop
 shared-slice-read-h c = omega (arith, c .before .before .before .before .before .before .before .pre .1 .room, c .before .before .before .before .before .before .before .pre .0 .1)
 
--- src/lib.rt:165:5
 loop-less : tie.Need-loop-less Inv-loop μ-loop
 loop-less c = omega (arith, nxt-le (c .before .before))
 
--- src/lib.rt:165:5
 loop-again : tie.Need-loop-again Inv-loop μ-loop
 loop-again c =
     let a = c .before .before .before .before .before .before .before .args in
     let fs = now (a .indices) in
     let x = corner fs (a .head - 1) in
     let h = c .before .before .before .before .loop .h in
-    let n = nxt (c .before .before) in
-    (
+    let n = nxt (c .before .before) in (
       omega (arith, nxt-le (c .before .before), c .before .before .before .before .loop .inv .0),
       rw n (turn (c .before .before) ∙ rw (ne-eqb _ _ (λ e. c .before .if1 .left (c .before .before .end-of .ensures ∙ sym e))) (runs-next fs x (a .b) (h - 1) _ refl)),
       λ l. rw n (eqb-true _ _ (last-is (leaves fs x) (h - 1) (rw n at l))),
     )
 
--- src/lib.rt:159:1
 returns-2 : tie.Need-returns-2 Inv-loop μ-loop
 returns-2 c =
     let a = c .before .before .before .before .args in

@@ -1,63 +1,49 @@
 use borrow.Author.Tests.{eq-eqb, ne-eqb}
 use borrow.Author.Needs.{needs}
-use Rattle.cage.proofs.equal_corners.Statement.{statement}
-use Rattle.cage.proofs.equal_corners.Tie as tie
-use Rattle.cage.proofs.equal_corners.Reads as reads
-use Rattle.cage.proofs.equal_corners.Lts as lts
+use Rattle.cage.proofs.list.equal_corners.Statement.{statement}
+use Rattle.cage.proofs.list.equal_corners.Tie as tie
+use Rattle.cage.proofs.list.equal_corners.Reads as reads
+use Rattle.cage.proofs.list.equal_corners.Lts as lts
 
--- src/lib.rt:105:21
 mul-a : tie.Need-mul-a
 mul-a c = search needs
 
--- src/lib.rt:105:13
 mul-a-2 : tie.Need-mul-a-2
 mul-a-2 c = search needs
 
--- src/lib.rt:105:13
 shared-slice-read-a : tie.Need-shared-slice-read-a
 shared-slice-read-a c = search needs
 
--- src/lib.rt:106:21
 mul-b : tie.Need-mul-b
 mul-b c = search needs
 
--- src/lib.rt:106:21
 add-b : tie.Need-add-b
 add-b c = search needs
 
--- src/lib.rt:106:13
 mul-b-2 : tie.Need-mul-b-2
 mul-b-2 c = search needs
 
--- src/lib.rt:106:13
 shared-slice-read-b : tie.Need-shared-slice-read-b
 shared-slice-read-b c = search needs
 
--- src/lib.rt:107:21
 mul-c : tie.Need-mul-c
 mul-c c = search needs
 
--- src/lib.rt:107:21
 add-c : tie.Need-add-c
 add-c c = search needs
 
--- src/lib.rt:107:13
 mul-c-2 : tie.Need-mul-c-2
 mul-c-2 c = search needs
 
--- src/lib.rt:107:13
 shared-slice-read-c : tie.Need-shared-slice-read-c
 shared-slice-read-c c = search needs
 
--- src/lib.rt:109:9
 returns : tie.Need-returns
 returns c = simp (eq-eqb _ _ (c .if1 .taken))
 
--- src/lib.rt:112:9
 returns-2 : tie.Need-returns-2
 returns-2 c = simp (ne-eqb _ _ (c .before .if1 .left), eq-eqb _ _ (c .if2 .taken))
 
--- src/lib.rt:101:1
 returns-3 : tie.Need-returns-3
 returns-3 c = rw (ne-eqb _ _ (c .before .if1 .left), ne-eqb _ _ (c .if2 .left))
 

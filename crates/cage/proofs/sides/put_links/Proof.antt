@@ -15,12 +15,12 @@ use Rattle.faces.specs.Words.{coded}
 use Rattle.cage.specs.Chains.{lastBelow, leaves, runs}
 use Rattle.cage.proofs.Chains.{last-le, runs-from}
 use Rattle.cage.proofs.Across.{link-word, length-words, coded-at}
-use Rattle.cage.proofs.put_links.Statement.{statement}
-use Rattle.cage.proofs.put_links.Tie as tie
-use Rattle.cage.proofs.put_links.Reads as reads
-use Rattle.cage.proofs.put_links.Lts as lts
-use Rattle.cage.proofs.end_of.Reads as end-of-reads
-use Rattle.cage.proofs.seek.Reads as seek-reads
+use Rattle.cage.proofs.sides.put_links.Statement.{statement}
+use Rattle.cage.proofs.sides.put_links.Tie as tie
+use Rattle.cage.proofs.sides.put_links.Reads as reads
+use Rattle.cage.proofs.sides.put_links.Lts as lts
+use Rattle.cage.proofs.sides.end_of.Reads as end-of-reads
+use Rattle.cage.proofs.sides.seek.Reads as seek-reads
 
 abbrev Inv-loop : tie.InvT-loop
 Inv-loop indices heads nexts words₀ at s₀ words s = (s ≤ length indices) × (length words ≡ length words₀) × (words ≡ sets words₀ at (take s (map coded (links indices))))
@@ -65,59 +65,45 @@ found-link k =
     ∙ runs-from fs (corner fs (onward x)) (corner fs x) (length fs) (getD (now (s .args .heads)) (k .before .before .before .end-of .result) 0) (head (k .before .before .before))
     ∙ sym (link-word fs (s .pre .1 .1 .each) x h) ∙ sym (coded-at fs x h)
 
--- src/lib.rt:203:5
 loop-holds : tie.Need-loop-holds Inv-loop μ-loop
 loop-holds c = (omega arith, refl, refl)
 
--- src/lib.rt:204:17
 end-of-requires : tie.Need-end-of-requires Inv-loop μ-loop
 end-of-requires c κs = (c .before .before .before .before .before .before .pre .0 .0, search needs)
 
--- src/lib.rt:204:17
 cast-b : tie.Need-cast-b Inv-loop μ-loop
 cast-b c = omega (arith, below c)
 
--- src/lib.rt:205:38
 mul-seek : tie.Need-mul-seek Inv-loop μ-loop
 mul-seek c = omega (arith, below c)
 
--- src/lib.rt:205:38
 shared-slice-read-seek : tie.Need-shared-slice-read-seek Inv-loop μ-loop
 shared-slice-read-seek c = below (c .before)
 
--- src/lib.rt:205:48
 mul-seek-2 : tie.Need-mul-seek-2 Inv-loop μ-loop
 mul-seek-2 c = omega arith
 
--- src/lib.rt:205:48
 shared-slice-read-seek-2 : tie.Need-shared-slice-read-seek-2 Inv-loop μ-loop
 shared-slice-read-seek-2 c = omega arith
 
--- src/lib.rt:205:13
 seek-requires : tie.Need-seek-requires Inv-loop μ-loop
 seek-requires c κs = ((c .before .before .before .before .before .before .before .before .before .pre .0 .0, head-le (c .before .before)), c .before .before .before .before .before .before .before .before .before .pre .1 .0 .1)
 
--- src/lib.rt:206:15
 add-words : tie.Need-add-words Inv-loop μ-loop
 add-words c = search needs
 
--- src/lib.rt:206:9
 mul-words : tie.Need-mul-words Inv-loop μ-loop
 mul-words c = search needs
 
--- src/lib.rt:206:9
 slice-write-words : tie.Need-slice-write-words Inv-loop μ-loop
 slice-write-words c = search needs
 
--- src/lib.rt:207:13
 add-s : tie.Need-add-s Inv-loop μ-loop
 add-s c = search needs
 
--- src/lib.rt:203:5
 loop-less : tie.Need-loop-less Inv-loop μ-loop
 loop-less c = search needs
 
--- src/lib.rt:203:5
 loop-again : tie.Need-loop-again Inv-loop μ-loop
 loop-again c =
     let s = c .before .before .before .before .before .before .before .before .before .before in
@@ -127,11 +113,9 @@ loop-again c =
     let h : l .s < length (map coded (links fs)) = rw (length-words fs) t in
     (omega arith, rw length-set (l .inv .1), rw (l .inv .2, found-link c) (copy-at (now (s .args .words)) (map coded (links fs)) (s .args .at) (l .s) 0 h))
 
--- src/lib.rt:196:1
 same-length : tie.Need-same-length Inv-loop μ-loop
 same-length c = search needs
 
--- src/lib.rt:196:1
 returns : tie.Need-returns Inv-loop μ-loop
 returns c =
     let s = c .before .before .before .before .before .before in

@@ -7,57 +7,45 @@ use Rattle.rules.specs.Mesh.{corner}
 use Rattle.faces.proofs.Links.{link-word}
 use Rattle.cage.specs.Chains.{foldsBack}
 use borrow.Author.Needs.{needs}
-use Rattle.cage.proofs.folds_back.Statement.{statement}
-use Rattle.cage.proofs.folds_back.Tie as tie
-use Rattle.cage.proofs.folds_back.Reads as reads
-use Rattle.cage.proofs.folds_back.Lts as lts
+use Rattle.cage.proofs.list.folds_back.Statement.{statement}
+use Rattle.cage.proofs.list.folds_back.Tie as tie
+use Rattle.cage.proofs.list.folds_back.Reads as reads
+use Rattle.cage.proofs.list.folds_back.Lts as lts
 use Rattle.faces.proofs.backward.Reads as backward-reads
 
--- src/lib.rt:217:9
 returns : tie.Need-returns
 returns c = search needs
 
--- src/lib.rt:219:14
 sub-t : tie.Need-sub-t
 sub-t c = search needs
 
--- src/lib.rt:219:13
 cast-t : tie.Need-cast-t
 cast-t c = search needs
 
--- src/lib.rt:220:12
 mul-if2 : tie.Need-mul-if2
 mul-if2 c = search needs
 
--- src/lib.rt:221:17
 backward-requires : tie.Need-backward-requires
 backward-requires c κs = search needs
 
--- src/lib.rt:221:9
 mul-result : tie.Need-mul-result
 mul-result c = search needs
 
--- src/lib.rt:221:9
 shared-slice-read-result : tie.Need-shared-slice-read-result
 shared-slice-read-result c = search needs
 
--- src/lib.rt:221:48
 mul-result-2 : tie.Need-mul-result-2
 mul-result-2 c = search needs
 
--- src/lib.rt:221:48
 add-result : tie.Need-add-result
 add-result c = search needs
 
--- src/lib.rt:221:40
 mul-result-3 : tie.Need-mul-result-3
 mul-result-3 c = search needs
 
--- src/lib.rt:221:40
 shared-slice-read-result-2 : tie.Need-shared-slice-read-result-2
 shared-slice-read-result-2 c = search needs
 
--- src/lib.rt:212:1
 returns-2 : tie.Need-returns-2
 returns-2 c =
     let a = c .before .before .before .before .before .before .args in
@@ -65,7 +53,6 @@ returns-2 c =
     ap (λ (x : ℕ). eqb (corner fs x) (corner fs (3 * a .f + 2))) (c .before .before .backward .ensures)
     ∙ sym (ap (foldsBack fs (a .f)) (link-word (a .link) (c .before .before .before .before .if1 .left)) ∙ rw (lt-ltb _ _ (c .before .before .before .if2 .taken)))
 
--- src/lib.rt:212:1
 returns-3 : tie.Need-returns-3
 returns-3 c =
     let a = c .before .before .before .args in

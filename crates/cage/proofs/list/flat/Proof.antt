@@ -9,11 +9,11 @@ use mathlib.Core.Bool.{Bool, true, false}
 use lib.ListN.{length, getD}
 use Rattle.cage.proofs.Search.{find-here, find-nowhere, lowest-here, lowest-nowhere}
 use Rattle.rules.specs.Refusals.{equalCorners}
-use Rattle.cage.proofs.flat.Statement.{statement}
-use Rattle.cage.proofs.flat.Tie as tie
-use Rattle.cage.proofs.flat.Reads as reads
-use Rattle.cage.proofs.flat.Lts as lts
-use Rattle.cage.proofs.equal_corners.Reads as equal-corners-reads
+use Rattle.cage.proofs.list.flat.Statement.{statement}
+use Rattle.cage.proofs.list.flat.Tie as tie
+use Rattle.cage.proofs.list.flat.Reads as reads
+use Rattle.cage.proofs.list.flat.Lts as lts
+use Rattle.cage.proofs.list.equal_corners.Reads as equal-corners-reads
 use Rattle.cage.proofs.no.Reads as no-reads
 
 abbrev Inv-loop : tie.InvT-loop
@@ -22,39 +22,30 @@ Inv-loop indices f₀ f = (f ≤ length indices / 3) × ((j : ℕ) → j < f →
 abbrev μ-loop : tie.MeasureT-loop
 μ-loop indices f₀ f = length indices / 3 - f
 
--- src/lib.rt:117:5
 loop-holds : tie.Need-loop-holds Inv-loop μ-loop
 loop-holds c = (omega arith, λ j h. absurd (omega arith))
 
--- src/lib.rt:118:12
 equal-corners-requires : tie.Need-equal-corners-requires Inv-loop μ-loop
 equal-corners-requires c κs = omega arith
 
--- src/lib.rt:119:26
 cast-no : tie.Need-cast-no Inv-loop μ-loop
 cast-no c = search needs
 
--- src/lib.rt:119:13
 no-requires : tie.Need-no-requires Inv-loop μ-loop
 no-requires c κs = search needs
 
--- src/lib.rt:119:13
 returns : tie.Need-returns Inv-loop μ-loop
 returns c = c .no .ensures ∙ sym (lowest-here 6 (equalCorners (now (c .before .before .before .before .before .before .args .indices))) (length (now (c .before .before .before .before .before .before .args .indices)) / 3) (c .before .before .before .before .loop .f) (omega arith) (sym (c .before .before .equal-corners .ensures) ∙ c .before .if1 .taken) (c .before .before .before .before .loop .inv .1))
 
--- src/lib.rt:121:13
 add-f : tie.Need-add-f Inv-loop μ-loop
 add-f c = search needs
 
--- src/lib.rt:117:5
 loop-less : tie.Need-loop-less Inv-loop μ-loop
 loop-less c = search needs
 
--- src/lib.rt:117:5
 loop-again : tie.Need-loop-again Inv-loop μ-loop
 loop-again c = (omega arith, below-more _ _ (c .before .before .before .loop .inv .1) (sym (c .before .equal-corners .ensures) ∙ c .if1 .left))
 
--- src/lib.rt:112:1
 returns-2 : tie.Need-returns-2 Inv-loop μ-loop
 returns-2 c = let l = now (c .before .before .before .args .indices) in sym (lowest-nowhere 6 (equalCorners l) (length l / 3) (λ j h. c .before .loop .inv .1 j (omega arith)))
 

@@ -13,13 +13,13 @@ use Rattle.rules.specs.Refusals.{usedBefore}
 use Rattle.cage.specs.Chains.{lastBelow, leaves, runs}
 use Rattle.cage.proofs.Search.{lowest-here, lowest-nowhere}
 use Rattle.cage.proofs.Chains.{last-le, runs-from, used-is}
-use Rattle.cage.proofs.reused.Statement.{statement}
-use Rattle.cage.proofs.reused.Tie as tie
-use Rattle.cage.proofs.reused.Reads as reads
-use Rattle.cage.proofs.reused.Lts as lts
-use Rattle.cage.proofs.end_of.Reads as end-of-reads
+use Rattle.cage.proofs.list.reused.Statement.{statement}
+use Rattle.cage.proofs.list.reused.Tie as tie
+use Rattle.cage.proofs.list.reused.Reads as reads
+use Rattle.cage.proofs.list.reused.Lts as lts
+use Rattle.cage.proofs.sides.end_of.Reads as end-of-reads
 use Rattle.cage.proofs.no.Reads as no-reads
-use Rattle.cage.proofs.seek.Reads as seek-reads
+use Rattle.cage.proofs.sides.seek.Reads as seek-reads
 
 abbrev Inv-loop : tie.InvT-loop
 Inv-loop indices nexts s₀ s = (s ≤ length indices) × ((j : ℕ) → j < s → usedBefore (sides indices) j ≡ false)
@@ -45,35 +45,27 @@ used k =
     ∙ ap (ltb 0) (sym (k .seek .ensures ∙ ap (λ (x : ℕ). lastBelow (runs fs (corner fs (getD (now (k .before .before .before .before .before .before .before .args .nexts)) s 0 - 1)) x) (getD (now (k .before .before .before .before .before .before .before .args .nexts)) s 0)) e
     ∙ runs-from fs (corner fs s) (corner fs (onward s)) s (getD (now (k .before .before .before .before .before .before .before .args .nexts)) s 0) (head (k .before))))
 
--- src/lib.rt:182:5
 loop-holds : tie.Need-loop-holds Inv-loop μ-loop
 loop-holds c = (omega arith, λ j h. absurd (omega arith))
 
--- src/lib.rt:183:13
 end-of-requires : tie.Need-end-of-requires Inv-loop μ-loop
 end-of-requires c κs = (c .before .before .before .before .pre .0, search needs)
 
--- src/lib.rt:184:33
 mul-seek : tie.Need-mul-seek Inv-loop μ-loop
 mul-seek c = search needs
 
--- src/lib.rt:184:33
 shared-slice-read-seek : tie.Need-shared-slice-read-seek Inv-loop μ-loop
 shared-slice-read-seek c = omega (arith, c .before .before .before .before .before .before .pre .1 .room)
 
--- src/lib.rt:184:12
 seek-requires : tie.Need-seek-requires Inv-loop μ-loop
 seek-requires c κs = ((c .before .before .before .before .before .before .pre .0, omega (arith, head c, last-le (leaves (now (c .before .before .before .before .before .before .args .indices)) (corner (now (c .before .before .before .before .before .before .args .indices)) (c .before .before .before .loop .s))) (c .before .before .before .loop .s))), c .before .before .before .before .before .before .pre .1)
 
--- src/lib.rt:185:26
 cast-no : tie.Need-cast-no Inv-loop μ-loop
 cast-no c = search needs
 
--- src/lib.rt:185:13
 no-requires : tie.Need-no-requires Inv-loop μ-loop
 no-requires c κs = search needs
 
--- src/lib.rt:185:13
 returns : tie.Need-returns Inv-loop μ-loop
 returns c =
     let fs = now (c .before .before .before .before .before .before .before .before .before .args .indices) in
@@ -82,19 +74,15 @@ returns c =
     let p = c .before .before .before .before .before .before .before .before .before .pre .0 .thirds in
     c .no .ensures ∙ sym (lowest-here 7 (usedBefore (sides fs)) (3 * (length fs / 3)) (l .s) (omega arith) (used (c .before .before) ∙ lt-ltb _ _ (c .before .if1 .taken)) (l .inv .1))
 
--- src/lib.rt:187:13
 add-s : tie.Need-add-s Inv-loop μ-loop
 add-s c = search needs
 
--- src/lib.rt:182:5
 loop-less : tie.Need-loop-less Inv-loop μ-loop
 loop-less c = search needs
 
--- src/lib.rt:182:5
 loop-again : tie.Need-loop-again Inv-loop μ-loop
 loop-again c = (omega arith, below-more _ _ (c .before .before .before .before .before .loop .inv .1) (used (c .before) ∙ le-ltb _ _ (c .if1 .left)))
 
--- src/lib.rt:176:1
 returns-2 : tie.Need-returns-2 Inv-loop μ-loop
 returns-2 c =
     let fs = now (c .before .before .before .before .args .indices) in

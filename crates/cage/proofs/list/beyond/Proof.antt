@@ -9,10 +9,10 @@ use mathlib.Core.Bool.{Bool, true, false}
 use lib.ListN.{length, getD}
 use Rattle.cage.proofs.Search.{find-here, find-nowhere, lowest-here, lowest-nowhere}
 use lib.Dec.{leb}
-use Rattle.cage.proofs.beyond.Statement.{statement}
-use Rattle.cage.proofs.beyond.Tie as tie
-use Rattle.cage.proofs.beyond.Reads as reads
-use Rattle.cage.proofs.beyond.Lts as lts
+use Rattle.cage.proofs.list.beyond.Statement.{statement}
+use Rattle.cage.proofs.list.beyond.Tie as tie
+use Rattle.cage.proofs.list.beyond.Reads as reads
+use Rattle.cage.proofs.list.beyond.Lts as lts
 use Rattle.cage.proofs.no.Reads as no-reads
 
 abbrev Inv-loop : tie.InvT-loop
@@ -21,43 +21,33 @@ Inv-loop indices v i₀ i = (i ≤ length indices) × ((j : ℕ) → j < i → l
 abbrev μ-loop : tie.MeasureT-loop
 μ-loop indices v i₀ i = length indices - i
 
--- src/lib.rt:92:5
 loop-holds : tie.Need-loop-holds Inv-loop μ-loop
 loop-holds c = (omega arith, λ j h. absurd (omega arith))
 
--- src/lib.rt:93:12
 mul-if1 : tie.Need-mul-if1 Inv-loop μ-loop
 mul-if1 c = search needs
 
--- src/lib.rt:93:12
 shared-slice-read-if1 : tie.Need-shared-slice-read-if1 Inv-loop μ-loop
 shared-slice-read-if1 c = search needs
 
--- src/lib.rt:94:26
 cast-no : tie.Need-cast-no Inv-loop μ-loop
 cast-no c = search needs
 
--- src/lib.rt:94:13
 no-requires : tie.Need-no-requires Inv-loop μ-loop
 no-requires c κs = search needs
 
--- src/lib.rt:94:13
 returns : tie.Need-returns Inv-loop μ-loop
 returns c = c .no .ensures ∙ sym (find-here 5 (λ u. leb (c .before .before .before .before .before .before .args .v) u) 0 (now (c .before .before .before .before .before .before .args .indices)) (c .before .before .before .before .loop .i) (omega arith) (le-leb _ _ (c .before .if1 .taken)) (c .before .before .before .before .loop .inv .1))
 
--- src/lib.rt:96:13
 add-i : tie.Need-add-i Inv-loop μ-loop
 add-i c = search needs
 
--- src/lib.rt:92:5
 loop-less : tie.Need-loop-less Inv-loop μ-loop
 loop-less c = search needs
 
--- src/lib.rt:92:5
 loop-again : tie.Need-loop-again Inv-loop μ-loop
 loop-again c = (omega arith, below-more _ _ (c .before .before .before .loop .inv .1) (lt-leb _ _ (c .if1 .left)))
 
--- src/lib.rt:87:1
 returns-2 : tie.Need-returns-2 Inv-loop μ-loop
 returns-2 c = sym (find-nowhere 5 (λ u. leb (c .before .before .before .args .v) u) 0 (now (c .before .before .before .args .indices)) (λ j h. c .before .loop .inv .1 j (omega arith)))
 

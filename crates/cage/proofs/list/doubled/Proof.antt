@@ -15,11 +15,11 @@ use Rattle.faces.specs.Words.{linkOf}
 use Rattle.cage.specs.Chains.{foldsBack}
 use Rattle.cage.proofs.Search.{lowest-here, lowest-nowhere}
 use Rattle.cage.proofs.Across.{link-coded, word-at, word-le, folds-is}
-use Rattle.cage.proofs.doubled.Statement.{statement}
-use Rattle.cage.proofs.doubled.Tie as tie
-use Rattle.cage.proofs.doubled.Reads as reads
-use Rattle.cage.proofs.doubled.Lts as lts
-use Rattle.cage.proofs.folds_back.Reads as folds-back-reads
+use Rattle.cage.proofs.list.doubled.Statement.{statement}
+use Rattle.cage.proofs.list.doubled.Tie as tie
+use Rattle.cage.proofs.list.doubled.Reads as reads
+use Rattle.cage.proofs.list.doubled.Lts as lts
+use Rattle.cage.proofs.list.folds_back.Reads as folds-back-reads
 use Rattle.cage.proofs.no.Reads as no-reads
 
 abbrev Inv-loop : tie.InvT-loop
@@ -45,23 +45,18 @@ folds k =
     ∙ ap (foldsBack fs f) (sym (link-coded (getD (links fs) (3 * f) none)) ∙ ap linkOf (sym (word-at fs w (s .pre .1 .0) (3 * f) (omega arith))))
     ∙ sym (k .folds-back .ensures)
 
--- src/lib.rt:235:5
 loop-holds : tie.Need-loop-holds Inv-loop μ-loop
 loop-holds c = (omega arith, λ j h. absurd (omega arith))
 
--- src/lib.rt:236:41
 mul-folds-back : tie.Need-mul-folds-back Inv-loop μ-loop
 mul-folds-back c = search needs
 
--- src/lib.rt:236:35
 mul-folds-back-2 : tie.Need-mul-folds-back-2 Inv-loop μ-loop
 mul-folds-back-2 c = search needs
 
--- src/lib.rt:236:35
 shared-slice-read-folds-back : tie.Need-shared-slice-read-folds-back Inv-loop μ-loop
 shared-slice-read-folds-back c = search needs
 
--- src/lib.rt:236:12
 folds-back-requires : tie.Need-folds-back-requires Inv-loop μ-loop
 folds-back-requires c κs =
     let s = c .before .before .before .before .before in
@@ -69,15 +64,12 @@ folds-back-requires c κs =
     let f = c .before .before .loop .f in
     (s .pre .0 .0, omega arith, word-le fs (now (s .args .words)) (s .pre .1 .0) (3 * f) (omega arith))
 
--- src/lib.rt:237:26
 cast-no : tie.Need-cast-no Inv-loop μ-loop
 cast-no c = search needs
 
--- src/lib.rt:237:13
 no-requires : tie.Need-no-requires Inv-loop μ-loop
 no-requires c κs = search needs
 
--- src/lib.rt:237:13
 returns : tie.Need-returns Inv-loop μ-loop
 returns c =
     let s = c .before .before .before .before .before .before .before .before in
@@ -85,19 +77,15 @@ returns c =
     let l = c .before .before .before .before .before .loop in
     c .no .ensures ∙ sym (lowest-here 8 (λ f. found (lowest (sameSet fs f) f)) (length fs / 3) (l .f) (omega arith) (folds (c .before .before) ∙ c .before .if1 .taken) (l .inv .1))
 
--- src/lib.rt:239:13
 add-f : tie.Need-add-f Inv-loop μ-loop
 add-f c = search needs
 
--- src/lib.rt:235:5
 loop-less : tie.Need-loop-less Inv-loop μ-loop
 loop-less c = search needs
 
--- src/lib.rt:235:5
 loop-again : tie.Need-loop-again Inv-loop μ-loop
 loop-again c = (omega arith, below-more _ _ (c .before .before .before .before .loop .inv .1) (folds (c .before) ∙ c .if1 .left))
 
--- src/lib.rt:228:1
 returns-2 : tie.Need-returns-2 Inv-loop μ-loop
 returns-2 c =
     let fs = now (c .before .before .before .before .args .indices) in

@@ -7,10 +7,10 @@ use lib.ListN.{length, length-set, getD}
 use Rattle.rules.specs.Mesh.{onward, corner}
 use Rattle.cage.specs.Chains.{lastBelow, leaves, runs, Heads, Chained}
 use Rattle.cage.proofs.Chains.{heads-more, chained-more}
-use Rattle.cage.proofs.chain.Statement.{statement}
-use Rattle.cage.proofs.chain.Tie as tie
-use Rattle.cage.proofs.chain.Reads as reads
-use Rattle.cage.proofs.chain.Lts as lts
+use Rattle.cage.proofs.sides.chain.Statement.{statement}
+use Rattle.cage.proofs.sides.chain.Tie as tie
+use Rattle.cage.proofs.sides.chain.Reads as reads
+use Rattle.cage.proofs.sides.chain.Lts as lts
 
 abbrev Inv-loop : tie.InvT-loop
 Inv-loop indices heads₀ nexts₀ s₀ heads nexts s = (s ≤ length indices) × (length heads ≡ length heads₀) × (length nexts ≡ length nexts₀) × Heads indices s heads × Chained indices s nexts
@@ -21,67 +21,52 @@ abbrev μ-loop : tie.MeasureT-loop
 below : (k : tie.In-loop Inv-loop μ-loop) → corner (now (k .before .before .args .indices)) (k .before .loop .s) < length (now (k .before .before .args .heads))
 below k = k .before .before .pre .0 .1 .each (k .before .loop .s) (k .loop-test .taken)
 
--- src/lib.rt:150:5
 loop-holds : tie.Need-loop-holds Inv-loop μ-loop
 loop-holds c = (omega arith, refl, refl, c .pre .1 .0, c .pre .1 .1)
 
--- src/lib.rt:151:17
 mul-a : tie.Need-mul-a Inv-loop μ-loop
 mul-a c = search needs
 
--- src/lib.rt:151:17
 shared-slice-read-a : tie.Need-shared-slice-read-a Inv-loop μ-loop
 shared-slice-read-a c = search needs
 
--- src/lib.rt:151:17
 cast-a : tie.Need-cast-a Inv-loop μ-loop
 cast-a c = omega (arith, below (c .before))
 
--- src/lib.rt:152:20
 mul-nexts : tie.Need-mul-nexts Inv-loop μ-loop
 mul-nexts c = omega (arith, below (c .before))
 
--- src/lib.rt:152:20
 slice-read-nexts : tie.Need-slice-read-nexts Inv-loop μ-loop
 slice-read-nexts c = rw (c .before .before .before .loop .inv .1) (below (c .before .before))
 
--- src/lib.rt:152:9
 mul-nexts-2 : tie.Need-mul-nexts-2 Inv-loop μ-loop
 mul-nexts-2 c = omega arith
 
--- src/lib.rt:152:9
 slice-write-nexts : tie.Need-slice-write-nexts Inv-loop μ-loop
 slice-write-nexts c = let r = c .before .before .before .loop .inv .4 .room in omega arith
 
--- src/lib.rt:153:13
 add-s : tie.Need-add-s Inv-loop μ-loop
 add-s c = search needs
 
--- src/lib.rt:154:20
 cast-heads : tie.Need-cast-heads Inv-loop μ-loop
 cast-heads c = search needs
 
--- src/lib.rt:154:9
 mul-heads : tie.Need-mul-heads Inv-loop μ-loop
 mul-heads c = omega (arith, below (c .before .before))
 
--- src/lib.rt:154:9
 slice-write-heads : tie.Need-slice-write-heads Inv-loop μ-loop
 slice-write-heads c = rw (c .before .before .before .loop .inv .1) (below (c .before .before))
 
--- src/lib.rt:150:5
 loop-less : tie.Need-loop-less Inv-loop μ-loop
 loop-less c = search needs
 
--- src/lib.rt:150:5
 loop-again : tie.Need-loop-again Inv-loop μ-loop
 loop-again c =
     let l = c .before .before .before .loop in
     let fs = now (c .before .before .before .before .args .indices) in
     let b : corner fs (l .s) < length (l .heads) = rw (l .inv .1) (below (c .before .before)) in
     let r = l .inv .4 .room in
-    let t = c .before .before .loop-test .taken in
-    (
+    let t = c .before .before .loop-test .taken in (
       omega arith,
       rw length-set (l .inv .1),
       rw length-set (l .inv .2),
@@ -89,15 +74,12 @@ loop-again c =
       chained-more fs (l .s) (l .nexts) (getD (l .heads) (corner fs (l .s)) 0) (l .inv .3 .head (corner fs (l .s)) b) (omega arith) (l .inv .4),
     )
 
--- src/lib.rt:143:1
 same-length : tie.Need-same-length Inv-loop μ-loop
 same-length c = search needs
 
--- src/lib.rt:143:1
 same-length-2 : tie.Need-same-length-2 Inv-loop μ-loop
 same-length-2 c = search needs
 
--- src/lib.rt:143:1
 returns : tie.Need-returns Inv-loop μ-loop
 returns c =
     let fs = now (c .before .before .args .indices) in

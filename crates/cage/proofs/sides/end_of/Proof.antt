@@ -2,25 +2,21 @@ use denote.Ref.{now}
 use mathlib.Core.Path.{_≡_, ap}
 use Rattle.rules.specs.Mesh.{corner}
 use borrow.Author.Needs.{needs}
-use Rattle.cage.proofs.end_of.Statement.{statement}
-use Rattle.cage.proofs.end_of.Tie as tie
-use Rattle.cage.proofs.end_of.Reads as reads
-use Rattle.cage.proofs.end_of.Lts as lts
+use Rattle.cage.proofs.sides.end_of.Statement.{statement}
+use Rattle.cage.proofs.sides.end_of.Tie as tie
+use Rattle.cage.proofs.sides.end_of.Reads as reads
+use Rattle.cage.proofs.sides.end_of.Lts as lts
 use Rattle.faces.proofs.onward.Reads as onward-reads
 
--- src/lib.rt:142:13
 onward-requires : tie.Need-onward-requires
 onward-requires c κs = search needs
 
--- src/lib.rt:142:5
 mul-result : tie.Need-mul-result
 mul-result c = search needs
 
--- src/lib.rt:142:5
 shared-slice-read-result : tie.Need-shared-slice-read-result
 shared-slice-read-result c = search needs
 
--- src/lib.rt:138:1
 returns : tie.Need-returns
 returns c = ap (corner (now (c .before .before .before .args .indices))) (c .before .onward .ensures)
 

@@ -1,0 +1,112 @@
+// Checks 5 to 8: the face list by itself.
+ghost use mathlib.Core.Path.{_≡_};
+ghost use Prim.Native.Nat.{_+_, _*_, _/_, _%_, _≤_, _<_};
+ghost use mathlib.Core.List.{map};
+ghost use lib.ListN.{length, take};
+ghost use lib.Dec.{leb};
+ghost use Rattle.lists.specs.Lists.{find, lowest, found};
+ghost use Rattle.rules.specs.Mesh.{sides, links};
+ghost use Rattle.rules.specs.Refusals.{check, equalCorners, usedBefore, sameSet};
+ghost use Rattle.faces.specs.Words.{linkOf, coded};
+ghost use Rattle.cage.specs.Verdicts.{verdictOf};
+ghost use Rattle.cage.specs.Chains.{Faces, Apart, Once, Chained, foldsBack};
+use super::Check;
+use super::no;
+use super::sides::end_of;
+use super::sides::seek;
+
+// 5
+pub fn beyond(indices: &[u32], v: u32) -> Check
+    requires { ⌜ length (now indices) ≤ 12288 ⌝ }
+    ensures { λ r. ⌜ r ≡ verdictOf (check 5 (find (λ u. leb v u) (now (indices .entry)))) ⌝ }
+{
+    let mut i = 0;
+    while i < indices.len() {
+        if indices[i] >= v {
+            return no(5, i as u32);
+        }
+        i = i + 1;
+    }
+    Check::Pass
+}
+
+fn equal_corners(indices: &[u32], f: usize) -> bool
+    requires { ⌜ (3 * f + 2 < length (now indices)) × (length (now indices) ≤ 12288) ⌝ }
+    ensures { λ r. ⌜ r ≡ equalCorners (now (indices .entry)) f ⌝ }
+{
+    let a = indices[3 * f];
+    let b = indices[3 * f + 1];
+    let c = indices[3 * f + 2];
+    if a == b {
+        return true;
+    }
+    if b == c {
+        return true;
+    }
+    c == a
+}
+
+// 6
+pub fn flat(indices: &[u32]) -> Check
+    requires { ⌜ (length (now indices) % 3 ≡ 0) × (length (now indices) ≤ 12288) ⌝ }
+    ensures { λ r. ⌜ r ≡ verdictOf (check 6 (lowest (equalCorners (now (indices .entry))) (length (now (indices .entry)) / 3))) ⌝ }
+{
+    let mut f = 0;
+    while f < indices.len() / 3 {
+        if equal_corners(indices, f) {
+            return no(6, f as u32);
+        }
+        f = f + 1;
+    }
+    Check::Pass
+}
+
+// 7: an earlier side that leaves the same vertex ends where side s does.
+pub fn reused(indices: &[u32], nexts: &[u32]) -> Check
+    requires sizes { ⌜ Faces (now indices) ⌝ }
+    requires nexts { ⌜ Chained (now indices) (length (now indices)) (now nexts) ⌝ }
+    ensures { λ r. ⌜ r ≡ verdictOf (check 7 (lowest (usedBefore (sides (now (indices .entry)))) (3 * (length (now (indices .entry)) / 3)))) ⌝ }
+{
+    let mut s = 0;
+    while s < indices.len() {
+        let b = end_of(indices, s);
+        if seek(indices, nexts, nexts[s], b) > 0 {
+            return no(7, s as u32);
+        }
+        s = s + 1;
+    }
+    Check::Pass
+}
+
+// Does face f have the corner set of an earlier face, if its side 0 has this link word?
+fn folds_back(indices: &[u32], f: usize, link: u32) -> bool
+    requires { ⌜ Faces (now indices) × (3 * f + 2 < length (now indices)) × (link ≤ length (now indices)) ⌝ }
+    ensures { λ r. ⌜ r ≡ foldsBack (now (indices .entry)) f (linkOf link) ⌝ }
+{
+    if link == 0 {
+        return false;
+    }
+    let t = (link - 1) as usize;
+    if t < 3 * f {
+        indices[faces::backward(t)] == indices[3 * f + 2]
+    } else {
+        false
+    }
+}
+
+// 8: after 6 and 7, a face with the corner set of an earlier one is that face turned over, so it lies across side 0.
+pub fn doubled(indices: &[u32], words: &[u32]) -> Check
+    requires sizes { ⌜ Faces (now indices) × (length (now indices) ≤ length (now words)) ⌝ }
+    requires links { ⌜ take (length (now indices)) (now words) ≡ map coded (links (now indices)) ⌝ }
+    requires once { ⌜ Apart (now indices) × Once (now indices) ⌝ }
+    ensures { λ r. ⌜ r ≡ verdictOf (check 8 (lowest (λ f. found (lowest (sameSet (now (indices .entry)) f) f)) (length (now (indices .entry)) / 3))) ⌝ }
+{
+    let mut f = 0;
+    while f < indices.len() / 3 {
+        if folds_back(indices, f, words[3 * f]) {
+            return no(8, f as u32);
+        }
+        f = f + 1;
+    }
+    Check::Pass
+}
