@@ -1,8 +1,10 @@
 -- Laws of places, searches, pieces and ranks. Assumes nothing.
 use mathlib.Core.Path.{_≡_, refl, sym, ap, ap₂, _∙_}
-use Prim.Native.Nat.{ℕ, zero, suc, _+_, _-_, _*_, _<_, zero-le, suc-le-suc}
+use Prim.Native.Nat.{ℕ, zero, suc, _+_, _-_, _*_, _≤_, _<_, zero-le, suc-le-suc}
 use native.Mathlib.Nat.{add-zero, zero-add, add-suc, le-of-suc-le-suc, not-suc-le-zero, mul-zero, mul-suc}
+use native.Mathlib.Numerals.{add-one}
 use native.Mathlib.Omega.{arith}
+use native.Mathlib.Decide.{decLt}
 use mathlib.Core.Bool.{Bool, true, false, not}
 use mathlib.Core.List.{List, [], _∷_, _++_, map, append-assoc}
 use mathlib.Core.Option.{Option, none, some}
@@ -221,6 +223,35 @@ count-suc i zero = let e : i + 0 ≡ i = omega arith in rw e refl
 count-suc i (suc n) =
     let e : suc i + n ≡ i + suc n = omega arith in
     ap {B = List ℕ} (λ l. i ∷ l) (rw e at (count-suc (suc i) n))
+
+pub count-next : (n : ℕ) → count 0 (n + 1) ≡ count 0 n ++ (n ∷ [])
+count-next n = ap (count 0) (add-one n) ∙ count-suc 0 n ∙ ap (λ (z : ℕ). count 0 n ++ (z ∷ [])) (zero-add n)
+
+pub keep-next : (p : ℕ → Bool) (n : ℕ) → keep p (count 0 (n + 1)) ≡ keep p (count 0 n) ++ pick (p n) (n ∷ []) []
+keep-next p n = ap (λ (z : ℕ). keep p (count 0 z)) (add-one n) ∙ keep-suc p 0 n ∙ ap (λ (z : ℕ). keep p (count 0 n) ++ pick (p z) (z ∷ []) []) (zero-add n)
+
+pub tally-next : (p : ℕ → Bool) (n : ℕ) → tally p (count 0 (n + 1)) ≡ tally p (count 0 n) + bit (p n)
+tally-next p n = ap (λ (z : ℕ). tally p (count 0 z)) (add-one n) ∙ rank-suc p n
+
+bit-below : (b : Bool) → bit b ≤ 1
+bit-below true = omega arith
+bit-below false = omega arith
+
+pub tally-below : (p : ℕ → Bool) (n : ℕ) → tally p (count 0 n) ≤ n
+tally-below p zero = omega arith
+tally-below p (suc n) = rw (rank-suc p n) (omega (arith, tally-below p n, bit-below (p n)))
+
+pub rank-le : (p : ℕ → Bool) (a b : ℕ) → a ≤ b → tally p (count 0 a) ≤ tally p (count 0 b)
+rank-le p a zero h = let e : a ≡ 0 = omega arith in rw e (omega arith)
+rank-le p a (suc b) h = rw (rank-suc p b) (go (λ l. rank-le p a b l) (decLt b a))
+  where
+    go : (a ≤ b → tally p (count 0 a) ≤ tally p (count 0 b)) → Dec (b < a) → tally p (count 0 a) ≤ tally p (count 0 b) + bit (p b)
+    go r (yes l) = let e : a ≡ suc b = omega arith in rw (e, rank-suc p b) (omega arith)
+    go r (no l) = omega (arith, r (omega arith))
+
+pub gather-one : {A B : Type 0} (f : A → B) (l : List A) → gather (λ x. f x ∷ []) l ≡ map f l
+gather-one f [] = refl
+gather-one {B} f (x ∷ l) = ap {B = List B} (λ r. f x ∷ r) (gather-one f l)
 
 pub gather-append : {A B : Type 0} (f : A → List B) (a b : List A) → gather f (a ++ b) ≡ gather f a ++ gather f b
 gather-append f [] b = refl

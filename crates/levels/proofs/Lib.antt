@@ -1,0 +1,4 @@
+pub mod Links
+pub mod Numbers
+pub mod Rows
+pub mod Starts
