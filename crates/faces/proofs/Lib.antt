@@ -2,3 +2,4 @@ pub mod Links
 pub mod Trips
 pub mod Trails
 pub mod Rings
+pub mod Held

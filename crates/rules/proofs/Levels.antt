@@ -96,7 +96,7 @@ rims-level (suc l) n m w =
 abbrev pub valenceAt : Mesh → ℕ → ℕ
 valenceAt m v = valence (fan (links (m .faces)) (getD (m .starts) v 0))
 
-pub Small : ℕ → Mesh → Type 0
+unfoldable pub Small : ℕ → Mesh → Type 0
 Small b m = (v : ℕ) → v < m .verts → valenceAt m v ≤ b
 
 pub small-refined : (b n : ℕ) (m : Mesh) → 6 ≤ b → Sound n m → Small b m → Small b (refined m (links (m .faces)))

@@ -1,0 +1,132 @@
+-- What a caller of the walks and rings has where the words hold a mesh that the checks have passed. Assumes nothing.
+use mathlib.Core.Path.{_≡_, refl, sym, ap, ap₂, _∙_}
+use mathlib.Core.Logic.{_≢_}
+use Prim.Native.Nat.{ℕ, zero, suc, _+_, _*_, _/_, _≤_, _<_}
+use native.Mathlib.Omega.{arith}
+use mathlib.Core.Bool.{Bool}
+use mathlib.Core.List.{List, map}
+use mathlib.Core.Option.{Option, none, some}
+use lib.ListN.{length, getD, take, replicate, length-map}
+use lib.Seq.{length-sets, getD-take}
+use Rattle.lists.specs.Lists.{part}
+use Rattle.lists.proofs.Places.{getD-map}
+use Rattle.lists.proofs.Stores.{getD-part, part-of}
+use Rattle.rules.specs.Mesh.{corner, links, Fan, inner, rim, endless, fan, valence, ring, Mesh}
+use Rattle.rules.proofs.Refine.{Good}
+use Rattle.rules.proofs.Faces.{link-below}
+use Rattle.rules.proofs.Turns.{fan-ends}
+use Rattle.rules.proofs.Sound.{Sound}
+use Rattle.rules.proofs.Levels.{Small}
+use Rattle.faces.specs.Words.{linkOf, coded, linksIn, faceCount, Holds}
+use Rattle.faces.specs.Rings.{Walkable, Ringable, turnOf, vert, held, ringOf}
+use Rattle.faces.specs.declared.VertNo.{VertNo}
+use Rattle.faces.specs.declared.Ring.{Ring}
+use Rattle.faces.specs.declared.Turn.the-variants as turn
+use Rattle.faces.proofs.Links.{getD-linksIn}
+use Rattle.faces.proofs.Trails.{endless-is}
+
+-- ---- link words and links, one for one
+
+pub coded-link : (x : ℕ) → coded (linkOf x) ≡ x
+coded-link zero = refl
+coded-link (suc t) = refl
+
+pub link-coded : (o : Option ℕ) → linkOf (coded o) ≡ o
+link-coded none = refl
+link-coded (some t) = refl
+
+coded-below : (n : ℕ) (o : Option ℕ) → ((t : ℕ) → o ≡ some t → t < n) → coded o ≤ n
+coded-below n none h = omega arith
+coded-below n (some t) h = h t refl
+
+-- ---- a mesh of n faces, held from `at` on
+
+module _ (w : List ℕ) (at n : ℕ) (m : Mesh) (h : Holds w at m) (g : Good (m .verts) n (m .faces)) where
+  pub count-is : faceCount m ≡ n
+  count-is = omega (arith, g .size)
+
+  pub faces-held : part at (3 * n) w ≡ m .faces
+  faces-held = rw count-is at (h .faces)
+
+  pub links-held : linksIn w (at + 3 * n) (3 * n) ≡ links (m .faces)
+  links-held = rw count-is at (h .links)
+
+  pub starts-held : part (at + 6 * n) (m .verts) w ≡ m .starts
+  starts-held = rw count-is at (h .starts)
+
+  pub room-held : at + 6 * n + m .verts ≤ length w
+  room-held = rw count-is at (h .room)
+
+  pub corner-word : (s : ℕ) → s < 3 * n → getD w (at + s) 0 ≡ corner (m .faces) s
+  corner-word s k = sym (getD-part w at (3 * n) s 0 k) ∙ ap (λ (l : List ℕ). getD l s 0) faces-held
+
+  pub corner-below : (s : ℕ) → s < 3 * n → getD w (at + s) 0 < m .verts
+  corner-below s k = rw (corner-word s k) (g .below s k)
+
+  pub link-word : (s : ℕ) → s < 3 * n → getD w (at + 3 * n + s) 0 ≡ coded (getD (links (m .faces)) s none)
+  link-word s k =
+      sym (coded-link (getD w (at + 3 * n + s) 0))
+      ∙ ap coded (sym (getD-linksIn w (at + 3 * n) (3 * n) (omega (arith, room-held)) s k) ∙ ap (λ (l : List (Option ℕ)). getD l s none) links-held)
+
+  pub link-bound : (s : ℕ) → s < 3 * n → getD w (at + 3 * n + s) 0 ≤ 3 * n
+  link-bound s k = rw (link-word s k) (coded-below (3 * n) (getD (links (m .faces)) s none) (λ t e. link-below (m .verts) n (m .faces) g s t k e))
+
+  pub start-word : (v : ℕ) → v < m .verts → getD w (at + 6 * n + v) 0 ≡ getD (m .starts) v 0
+  start-word v k = sym (getD-part w (at + 6 * n) (m .verts) v 0 k) ∙ ap (λ (l : List ℕ). getD l v 0) starts-held
+
+  -- the walks may start at every corner
+  pub walkable : (s : ℕ) → s < 3 * n → Walkable w (at + 3 * n) n s
+  walkable s k = record { room = omega (arith, room-held); start = k; linked = link-bound }
+
+  pub fan-held : (s : ℕ) → fan (linksIn w (at + 3 * n) (3 * n)) s ≡ fan (links (m .faces)) s
+  fan-held s = ap (λ (l : List (Option ℕ)). fan l s) links-held
+
+  pub turn-ends : (s : ℕ) → s < 3 * n → turnOf (fan (linksIn w (at + 3 * n) (3 * n)) s) ≢ turn.Endless
+  turn-ends s k e = fan-ends (m .verts) n (m .faces) g s k (sym (fan-held s) ∙ endless-is (fan (linksIn w (at + 3 * n) (3 * n)) s) e)
+
+  pub ringable : (s : ℕ) → s < 3 * n → valence (fan (links (m .faces)) s) ≤ 16 → Ringable w at (at + 3 * n) n s
+  ringable s k v = record { walkable = walkable s k; room = omega (arith, room-held); few = rw (fan-held s) v }
+
+  pub ring-of-held : (s : ℕ) → ringOf (part at (3 * n) w) (fan (linksIn w (at + 3 * n) (3 * n)) s) ≡ ringOf (m .faces) (fan (links (m .faces)) s)
+  ring-of-held s = ap₂ ringOf faces-held (fan-held s)
+
+-- and at the start corner of every vertex, of a mesh whose valences are in bounds
+module _ (w : List ℕ) (at n : ℕ) (m : Mesh) (h : Holds w at m) (p : Sound n m) (v : ℕ) (k : v < m .verts) where
+  pub start-is : getD w (at + 6 * n + v) 0 ≡ getD (m .starts) v 0
+  start-is = start-word w at n m h (p .good) v k
+
+  pub start-below : getD w (at + 6 * n + v) 0 < 3 * n
+  start-below = rw start-is (p .below v k)
+
+  pub start-walkable : Walkable w (at + 3 * n) n (getD w (at + 6 * n + v) 0)
+  start-walkable = walkable w at n m h (p .good) (getD w (at + 6 * n + v) 0) start-below
+
+  pub start-ringable : Small 16 m → Ringable w at (at + 3 * n) n (getD w (at + 6 * n + v) 0)
+  unfolding Small
+  start-ringable few = ringable w at n m h (p .good) (getD w (at + 6 * n + v) 0) start-below (rw start-is (few v k))
+
+  pub start-ring :
+      ringOf (part at (3 * n) w) (fan (linksIn w (at + 3 * n) (3 * n)) (getD w (at + 6 * n + v) 0)) ≡
+      ringOf (m .faces) (fan (links (m .faces)) (getD (m .starts) v 0))
+  start-ring = ring-of-held w at n m h (p .good) (getD w (at + 6 * n + v) 0) ∙ ap (λ (s : ℕ). ringOf (m .faces) (fan (links (m .faces)) s)) start-is
+
+-- ---- a ring that is held by value
+
+pub length-ring : (fs : List ℕ) (f : Fan) → length (ring fs f) ≡ valence f
+length-ring fs (inner cs) = length-map cs _
+length-ring fs (rim cs) = ap suc (length-map cs _)
+length-ring fs endless = refl
+
+module _ (vs : List ℕ) (b : Bool) where
+  pub held-length : length (held vs b .v) ≡ 16
+  held-length = length-sets (replicate 16 (vert 0)) 0 (map vert vs)
+
+  module _ (few : length vs ≤ 16) where
+    pub held-front : take (length vs) (held vs b .v) ≡ map vert vs
+    held-front = part-of (map vert vs) (replicate 16 (vert 0)) 0 (length vs) (length-map vs vert) (omega arith)
+
+    pub held-at : (k : ℕ) → k < length vs → getD (held vs b .v) k (vert 0) ≡ vert (getD vs k 0)
+    held-at k h =
+        sym (getD-take (length vs) (held vs b .v) k (vert 0) h)
+        ∙ ap (λ (l : List VertNo). getD l k (vert 0)) held-front
+        ∙ getD-map vert vs k 0 (vert 0) h
