@@ -6,7 +6,7 @@ use native.Mathlib.Numerals.{add-one}
 use native.Mathlib.Omega.{arith}
 use native.Mathlib.Decide.{decLt}
 use mathlib.Core.Bool.{Bool, true, false, not}
-use mathlib.Core.List.{List, [], _∷_, _++_, map, append-assoc}
+use mathlib.Core.List.{List, [], _∷_, _++_, map, map-append, append-assoc}
 use mathlib.Core.Option.{Option, none, some}
 use lib.Dec.{T, T-not}
 use lib.ListN.{length, getD, length-append, List·getD-append}
@@ -256,3 +256,15 @@ gather-one {B} f (x ∷ l) = ap {B = List B} (λ r. f x ∷ r) (gather-one f l)
 pub gather-append : {A B : Type 0} (f : A → List B) (a b : List A) → gather f (a ++ b) ≡ gather f a ++ gather f b
 gather-append f [] b = refl
 gather-append {B} f (x ∷ a) b = ap (λ (l : List B). f x ++ l) (gather-append f a b) ∙ sym (append-assoc (f x) (gather f a) (gather f b))
+
+-- pieces that are the same at every number of a count
+gather-from : {B : Type 0} (f g : ℕ → List B) (i n : ℕ) → ((k : ℕ) → i ≤ k → k < i + n → f k ≡ g k) → gather f (count i n) ≡ gather g (count i n)
+gather-from f g i zero h = refl
+gather-from {B} f g i (suc n) h = ap₂ {C = List B} (λ a b. a ++ b) (h i (omega arith) (omega arith)) (gather-from f g (suc i) n (λ k l m. h k (omega arith) (omega arith)))
+
+pub gather-same : {B : Type 0} (f g : ℕ → List B) (n : ℕ) → ((k : ℕ) → k < n → f k ≡ g k) → gather f (count 0 n) ≡ gather g (count 0 n)
+gather-same f g n h = gather-from f g 0 n (λ k l m. h k (omega arith))
+
+pub map-gather : {A B C : Type 0} (h : B → C) (f : A → List B) (l : List A) → map h (gather f l) ≡ gather (λ x. map h (f x)) l
+map-gather h f [] = refl
+map-gather {C} h f (x ∷ l) = map-append h (f x) (gather f l) ∙ ap (λ (r : List C). map h (f x) ++ r) (map-gather h f l)

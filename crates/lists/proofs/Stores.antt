@@ -8,7 +8,7 @@ use native.Mathlib.Omega.{arith}
 use native.Mathlib.Numerals.{add-one}
 use native.Mathlib.Nat.{add-zero, zero-add, mul-zero, mul-suc, mul-le-mul-left}
 use lib.ListN.{length, getD, set, take, drop, replicate, length-append, length-drop, length-replicate}
-use lib.Seq.{sets, sets-eq, take-suc, length-take-le, getD-set-other, getD-take, getD-drop, drop-set-lt, drop-set-add, take-set-le, take-at, drop-at}
+use lib.Seq.{sets, sets-eq, take-suc, length-take-le, getD-set-other, getD-take, getD-drop, drop-set-lt, drop-set-add, take-set-le, take-at, take-add, drop-at, drop-drop}
 use Rattle.lists.specs.Lists.{pick, bit, rows, turns, part, cleared, count, keep, tally, gather}
 use Rattle.lists.proofs.Places.{length-count, length-gather, length-keep, rank-lt, rank-le, count-next, keep-next, tally-next, gather-append}
 
@@ -170,3 +170,7 @@ module _ {B : Type 0} (g : ℕ → List B) (m : ℕ) (each : (k : ℕ) → lengt
 
   pub kept-count : p s ≡ true → length (keep p (count 0 (s + 1))) ≡ length (keep p (count 0 s)) + 1
   kept-count e = kept-rank (s + 1) ∙ tally-next p s ∙ omega (arith, kept-rank s, ap bit e)
+
+-- a part in two
+pub part-add : {A : Type 0} (l : List A) (at n m : ℕ) → part at (n + m) l ≡ part at n l ++ part (at + n) m l
+part-add {A} l at n m = take-add n m (drop at l) ∙ ap (λ (r : List A). part at n l ++ take m r) (drop-drop n at l)
