@@ -36,11 +36,11 @@ either-none true b e = absurd (let z : _≡_ {A = ℕ} 0 1 = cc in omega arith)
 either-none false true e = absurd (let z : _≡_ {A = ℕ} 0 1 = cc in omega arith)
 either-none false false e = (tt, tt)
 
-nor-l : (a b : Bool) → T (not (a || b)) → T (not a)
+pub nor-l : (a b : Bool) → T (not (a || b)) → T (not a)
 nor-l true b t = t
 nor-l false b t = tt
 
-nor-r : (a b : Bool) → T (not (a || b)) → T (not b)
+pub nor-r : (a b : Bool) → T (not (a || b)) → T (not b)
 nor-r true b t = absurd t
 nor-r false b t = t
 
@@ -216,7 +216,7 @@ pub record Shape (l is cs : ℕ) : Type 0 where
   pub faces : is / 3 ≤ mostInCage
   pub verts : cs / 3 ≤ mostInCage
 
-when-none : (a : Bool) → when a ≡ none → T (not a)
+pub when-none : (a : Bool) → when a ≡ none → T (not a)
 when-none true e = absurd (let z : _≡_ {A = ℕ} 0 1 = cc in omega arith)
 when-none false e = tt
 
