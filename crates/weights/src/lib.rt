@@ -1,7 +1,10 @@
 // Document 01, module 4: the weights of a vertex rule and of an edge, and the points that they give. The rules in f32; their twins in whole micrometres.
+pub mod micrometres;
+
+use faces::VertNo;
 use vectors::Vec3;
 ghost use mathlib.Core.Path.{_≡_};
-ghost use Prim.Native.Nat.{_<_, _≤_};
+ghost use Prim.Native.Nat.{_<_, _≤_, min, max};
 ghost use Rattle.rules.specs.Position.{refining, limit, f32, beta, loopGamma};
 ghost use Rattle.weights.specs.Weights.{staged, ruleOf, carried, ringPoint, rimPoint, weightedPoint, halfPoint, eighthPoint};
 
@@ -72,6 +75,19 @@ impl Rule {
             Rule::Rim(b) => weight_boundary(p, ring, n, b),
         }
     }
+}
+
+// The ends of an edge in order of their numbers.
+pub fn lower(a: VertNo, b: VertNo) -> VertNo
+    ensures { λ r. ⌜ r .0 ≡ min (a .0) (b .0) ⌝ }
+{
+    if a.0 < b.0 { a } else { b }
+}
+
+pub fn higher(a: VertNo, b: VertNo) -> VertNo
+    ensures { λ r. ⌜ r .0 ≡ max (a .0) (b .0) ⌝ }
+{
+    if a.0 < b.0 { b } else { a }
 }
 
 fn number(n: usize) -> f32

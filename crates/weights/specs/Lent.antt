@@ -1,0 +1,86 @@
+-- The rules over lent coordinates, three to a vertex, in either kind of number; and the weights as whole shares. Assumes nothing.
+use Prim.Native.Nat.{ℕ, _+_, _-_, _*_, min, max, _≤_, _<_}
+use mathlib.Core.Path.{_≡_}
+use mathlib.Core.Bool.{Bool}
+use mathlib.Core.List.{List, [], _∷_, map}
+use lib.ListN.{length, take, getD}
+use lib.IntN.{ℤ, pos, _+ℤ_, _*ℤ_}
+use Rattle.lists.specs.Lists.{pick}
+use Rattle.whole.specs.Whole.{reach, Near, nearest, lower}
+use Rattle.rules.specs.Position.{Stage, Rule, each, outOf, Numbers, sum}
+use Rattle.rules.specs.Levels.{ends, coord}
+use Rattle.faces.specs.declared.VertNo.{VertNo}
+use Rattle.faces.specs.declared.Ring.{Ring}
+use Rattle.weights.specs.Weights.{ruleOf}
+use Rattle.weights.specs.declared.micrometres.Share.{Share}
+use Rattle.weights.specs.declared.micrometres.Whole3.{Whole3}
+
+-- the vertices of a ring, in order
+abbrev pub numbers : List VertNo → List ℕ
+numbers vs = map (λ v. v .0) vs
+
+-- those that have the weight b: all of them, or on the rim the first and the last
+abbrev pub weighing : Ring → List ℕ
+weighing r = let vs = numbers (take (r .n) (r .v)) in pick (r .rim) (ends vs) vs
+
+-- how many they are
+abbrev pub weighings : Bool → ℕ → ℕ
+weighings rim n = pick rim 2 n
+
+module _ (𝓝 : Numbers) where
+  -- coordinate c of vertex v, by its ring
+  abbrev pub byRing : Stage → List (𝓝 .N) → ℕ → Ring → ℕ → 𝓝 .N
+  byRing s xs v r c = 𝓝 .blend (ruleOf s (r .rim) (r .n)) (coord 𝓝 xs c v) (map (coord 𝓝 xs c) (weighing r))
+
+  abbrev pub halfway : List (𝓝 .N) → ℕ → ℕ → ℕ → 𝓝 .N
+  halfway xs a b c = 𝓝 .halves (coord 𝓝 xs c a) (coord 𝓝 xs c b)
+
+  abbrev pub eighthway : List (𝓝 .N) → ℕ → ℕ → ℕ → ℕ → ℕ → 𝓝 .N
+  eighthway xs a b d e c = 𝓝 .eighths (coord 𝓝 xs c a) (coord 𝓝 xs c b) (coord 𝓝 xs c d) (coord 𝓝 xs c e)
+
+  -- the same of the ends of an edge in any order: a rim edge, and an inner one with its far corners
+  abbrev pub onRim : List (𝓝 .N) → ℕ → ℕ → ℕ → 𝓝 .N
+  onRim xs a b c = halfway xs (min a b) (max a b) c
+
+  abbrev pub within : List (𝓝 .N) → ℕ → ℕ → ℕ → ℕ → ℕ → 𝓝 .N
+  within xs a b d e c = eighthway xs (min a b) (max a b) d e c
+
+-- ---- whole micrometres
+
+-- the coordinates of vertex v are there, and in range
+pub record Readable (xs : List ℤ) (v : ℕ) : Type 0 where
+  pub room : 3 * v + 3 ≤ length xs
+  pub near : (c : ℕ) → c < 3 → Near (getD xs (3 * v + c) (pos 0))
+
+-- and those of the first n of vs
+pub record AllReadable (xs : List ℤ) (vs : List VertNo) (n : ℕ) : Type 0 where
+  pub few : n ≤ 16
+  pub at : (k : ℕ) → k < n → Readable xs (getD vs k (record { 0 = 0 }) .0)
+
+-- s is a sum of raised numbers of weight w in all, and stands for z
+abbrev pub Stands : ℕ → ℕ → ℤ → Type 0
+Stands s w z = (lower w s ≡ z) × (s ≤ w * (2 * reach))
+
+-- b = k / d on each of n, and 1 - n b
+abbrev pub sharing : ℕ → ℕ → ℕ → Share
+sharing n k d = record { own = d - n * k; each = k; all = d }
+
+abbrev pub shareOf : Rule → ℕ → Share
+shareOf r n = sharing n (each r) (outOf r)
+
+-- the mean of p and qs by their shares
+abbrev pub mean : Share → ℤ → List ℤ → ℤ
+mean w p qs = nearest (pos (w .own) *ℤ p +ℤ pos (w .each) *ℤ sum qs) (w .all)
+
+-- the shares of n beside one add up, to few enough
+pub record Whole (w : Share) (n : ℕ) : Type 0 where
+  pub above : 0 < w .all
+  pub few : w .all ≤ 128
+  pub together : w .own + n * w .each ≡ w .all
+
+-- what a point of raised coordinates stands for
+abbrev pub lowered : Whole3 → List ℤ
+lowered p = lower 1 (p .x) ∷ lower 1 (p .y) ∷ lower 1 (p .z) ∷ []
+
+abbrev pub Raised3 : Whole3 → Type 0
+Raised3 p = (p .x ≤ 2 * reach) × ((p .y ≤ 2 * reach) × (p .z ≤ 2 * reach))

@@ -1,0 +1,211 @@
+// The rules in whole micrometres, over lent coordinates. A coordinate is read raised, so that all sums are of naturals; `whole::rounded` is the one place that rounds.
+use crate::Stage;
+use crate::higher;
+use crate::lower;
+use faces::Ring;
+use faces::VertNo;
+use whole::put;
+use whole::raised_at;
+use whole::rounded;
+ghost use mathlib.Core.Path.{_≡_};
+ghost use Prim.Native.Nat.{ℕ, _+_, _*_, _<_, _≤_};
+ghost use mathlib.Core.List.{map};
+ghost use lib.ListN.{length, getD, take};
+ghost use lib.Seq.{sets};
+ghost use Rattle.rules.specs.Position.{refining, limit, sum, whole};
+ghost use Rattle.rules.specs.Levels.{ends, coord, three};
+ghost use Rattle.weights.specs.Weights.{staged, ruleOf};
+ghost use Rattle.weights.specs.Lent.{numbers, weighing, weighings, byRing, halfway, eighthway, onRim, within, Readable, AllReadable, Stands, sharing, shareOf, mean, Whole, lowered, Raised3};
+
+// The weights of a vertex rule out of one whole: the vertex's own, and that of each in its ring, or of its first and its last.
+pub struct Share {
+    pub own: u64,
+    pub each: u64,
+    pub all: u64,
+}
+
+impl Share {
+    fn of(k: u64, each: u64, all: u64) -> Share
+        requires { ⌜ (k ≤ 16) × ((each ≤ 3) × (k * each ≤ all)) ⌝ }
+        ensures { λ r. ⌜ r ≡ sharing k each all ⌝ }
+    {
+        Share {
+            own: all - k * each,
+            each: each,
+            all: all,
+        }
+    }
+
+    fn refining(rim: bool, n: usize) -> Share
+        requires { ⌜ n ≤ 16 ⌝ }
+        ensures { λ r. ⌜ r ≡ shareOf (ruleOf refining rim n) (weighings rim n) ⌝ }
+    {
+        if rim {
+            Share::of(2, 1, 8)
+        } else if n == 3 {
+            Share::of(3, 3, 16)
+        } else {
+            Share::of(n as u64, 3, 8 * n as u64)
+        }
+    }
+
+    fn limit(rim: bool, n: usize) -> Share
+        requires { ⌜ n ≤ 16 ⌝ }
+        ensures { λ r. ⌜ r ≡ shareOf (ruleOf limit rim n) (weighings rim n) ⌝ }
+    {
+        if rim {
+            Share::of(2, 1, 5)
+        } else if n == 3 {
+            Share::of(3, 1, 5)
+        } else {
+            Share::of(n as u64, 1, 2 * n as u64)
+        }
+    }
+
+    pub fn new(stage: Stage, rim: bool, n: usize) -> Share
+        requires { ⌜ n ≤ 16 ⌝ }
+        ensures { λ r. ⌜ r ≡ shareOf (ruleOf (staged stage) rim n) (weighings rim n) ⌝ }
+    {
+        match stage {
+            Stage::Refining => Share::refining(rim, n),
+            Stage::Limit => Share::limit(rim, n),
+        }
+    }
+}
+
+// A point of raised coordinates.
+pub struct Whole3 {
+    pub x: u64,
+    pub y: u64,
+    pub z: u64,
+}
+
+impl Whole3 {
+    pub fn put(self, xs: &mut [i32], i: usize)
+        requires { ⌜ (i + 3 ≤ length (now xs)) × Raised3 self ⌝ }
+        ensures { λ r. ⌜ now (xs .exit) ≡ sets (now (xs .entry)) i (lowered self) ⌝ }
+    {
+        put(xs, i, self.x);
+        put(xs, i + 1, self.y);
+        put(xs, i + 2, self.z);
+    }
+}
+
+fn at(xs: &[i32], v: VertNo, c: usize) -> u64
+    requires { ⌜ (c < 3) × Readable (now xs) (v .0) ⌝ }
+    ensures { λ r. ⌜ Stands r 1 (coord whole (now (xs .entry)) c (v .0)) ⌝ }
+{
+    raised_at(xs, 3 * v.0 as usize + c)
+}
+
+fn ring_sum(xs: &[i32], ring: [VertNo; 16], n: usize, c: usize) -> u64
+    requires { ⌜ (c < 3) × AllReadable (now xs) ring n ⌝ }
+    ensures { λ r. ⌜ Stands r n (sum (map (coord whole (now (xs .entry)) c) (numbers (take n ring)))) ⌝ }
+{
+    let mut s: u64 = 0;
+    let mut i = 0usize;
+    while i < n {
+        let v = ring[i];
+        s += at(xs, v, c);
+        i += 1usize;
+    }
+    s
+}
+
+fn boundary_sum(xs: &[i32], ring: [VertNo; 16], n: usize, c: usize) -> u64
+    requires { ⌜ (c < 3) × ((0 < n) × AllReadable (now xs) ring n) ⌝ }
+    ensures { λ r. ⌜ Stands r 2 (sum (map (coord whole (now (xs .entry)) c) (ends (numbers (take n ring))))) ⌝ }
+{
+    let end = n - 1;
+    let first = ring[0];
+    let last = ring[end];
+    at(xs, first, c) + at(xs, last, c)
+}
+
+// Those that have the weight b.
+fn weighed_sum(xs: &[i32], ring: Ring, c: usize) -> u64
+    requires { ⌜ (c < 3) × ((0 < ring .n) × AllReadable (now xs) (ring .v) (ring .n)) ⌝ }
+    ensures { λ r. ⌜ Stands r (weighings (ring .rim) (ring .n)) (sum (map (coord whole (now (xs .entry)) c) (weighing ring))) ⌝ }
+{
+    let vs = ring.v;
+    let n = ring.n;
+    if ring.rim {
+        boundary_sum(xs, vs, n, c)
+    } else {
+        ring_sum(xs, vs, n, c)
+    }
+}
+
+fn weighted(xs: &[i32], v: VertNo, ring: Ring, w: Share, c: usize) -> u64
+    requires { ⌜ (c < 3) × (Readable (now xs) (v .0) × ((0 < ring .n) × AllReadable (now xs) (ring .v) (ring .n))) ⌝ }
+    requires { ⌜ Whole w (weighings (ring .rim) (ring .n)) ⌝ }
+    ensures { λ r. ⌜ Stands r 1 (mean w (coord whole (now (xs .entry)) c (v .0)) (map (coord whole (now (xs .entry)) c) (weighing ring))) ⌝ }
+{
+    rounded(
+        w.own * at(xs, v, c) + w.each * weighed_sum(xs, ring, c),
+        w.all,
+    )
+}
+
+// Vertex v by the rule of the stage, from its ring.
+pub fn vertex(xs: &[i32], v: VertNo, ring: Ring, stage: Stage) -> Whole3
+    requires { ⌜ Readable (now xs) (v .0) × ((0 < ring .n) × AllReadable (now xs) (ring .v) (ring .n)) ⌝ }
+    ensures point { λ r. ⌜ lowered r ≡ three whole (byRing whole (staged stage) (now (xs .entry)) (v .0) ring) ⌝ }
+    ensures near { λ r. ⌜ Raised3 r ⌝ }
+{
+    let w = Share::new(stage, ring.rim, ring.n);
+    Whole3 {
+        x: weighted(xs, v, ring, w, 0),
+        y: weighted(xs, v, ring, w, 1),
+        z: weighted(xs, v, ring, w, 2),
+    }
+}
+
+fn half(xs: &[i32], a: VertNo, b: VertNo, c: usize) -> u64
+    requires { ⌜ (c < 3) × (Readable (now xs) (a .0) × Readable (now xs) (b .0)) ⌝ }
+    ensures { λ r. ⌜ Stands r 1 (halfway whole (now (xs .entry)) (a .0) (b .0) c) ⌝ }
+{
+    rounded(at(xs, a, c) + at(xs, b, c), 2)
+}
+
+fn eighths(xs: &[i32], a: VertNo, b: VertNo, d: VertNo, e: VertNo, c: usize) -> u64
+    requires { ⌜ (c < 3) × (Readable (now xs) (a .0) × Readable (now xs) (b .0)) ⌝ }
+    requires { ⌜ Readable (now xs) (d .0) × Readable (now xs) (e .0) ⌝ }
+    ensures { λ r. ⌜ Stands r 1 (eighthway whole (now (xs .entry)) (a .0) (b .0) (d .0) (e .0) c) ⌝ }
+{
+    rounded(
+        3 * at(xs, a, c) + 3 * at(xs, b, c) + at(xs, d, c) + at(xs, e, c),
+        8,
+    )
+}
+
+// The new vertex of a rim edge, between a and b.
+pub fn edge_rim(xs: &[i32], a: VertNo, b: VertNo) -> Whole3
+    requires { ⌜ Readable (now xs) (a .0) × Readable (now xs) (b .0) ⌝ }
+    ensures point { λ r. ⌜ lowered r ≡ three whole (onRim whole (now (xs .entry)) (a .0) (b .0)) ⌝ }
+    ensures near { λ r. ⌜ Raised3 r ⌝ }
+{
+    let lo = lower(a, b);
+    let hi = higher(a, b);
+    Whole3 {
+        x: half(xs, lo, hi, 0),
+        y: half(xs, lo, hi, 1),
+        z: half(xs, lo, hi, 2),
+    }
+}
+
+// The new vertex of an inner edge, between a and b; d is the far corner of the first face, e of the other.
+pub fn edge_inner(xs: &[i32], a: VertNo, b: VertNo, d: VertNo, e: VertNo) -> Whole3
+    requires { ⌜ Readable (now xs) (a .0) × Readable (now xs) (b .0) ⌝ }
+    requires { ⌜ Readable (now xs) (d .0) × Readable (now xs) (e .0) ⌝ }
+    ensures point { λ r. ⌜ lowered r ≡ three whole (within whole (now (xs .entry)) (a .0) (b .0) (d .0) (e .0)) ⌝ }
+    ensures near { λ r. ⌜ Raised3 r ⌝ }
+{
+    let lo = lower(a, b);
+    let hi = higher(a, b);
+    Whole3 {
+        x: eighths(xs, lo, hi, d, e, 0),
+        y: eighths(xs, lo, hi, d, e, 1),
+        z: eighths(xs, lo, hi, d, e, 2),
+    }
+}
