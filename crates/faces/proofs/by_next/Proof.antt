@@ -10,9 +10,6 @@ use Rattle.faces.proofs.Links.{next-at, next-below}
 use Rattle.faces.proofs.Trips.{tripFrom, tripOn, trip-starts, trip-turn, trip-long}
 use Rattle.faces.proofs.by_next.Statement.{statement}
 use Rattle.faces.proofs.by_next.Tie as tie
-use Rattle.faces.proofs.by_next.Reads as reads
-use Rattle.faces.proofs.by_next.Lts as lts
-use Rattle.faces.proofs.next_corner.Reads as next-corner-reads
 
 abbrev Inv-loop : tie.InvT-loop
 Inv-loop words links nf s at₀ n₀ at n =

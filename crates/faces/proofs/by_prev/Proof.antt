@@ -10,9 +10,6 @@ use Rattle.faces.proofs.Links.{prev-at, prev-below}
 use Rattle.faces.proofs.Trips.{tripFrom, tripOn, trip-starts, trip-turn, trip-long}
 use Rattle.faces.proofs.by_prev.Statement.{statement}
 use Rattle.faces.proofs.by_prev.Tie as tie
-use Rattle.faces.proofs.by_prev.Reads as reads
-use Rattle.faces.proofs.by_prev.Lts as lts
-use Rattle.faces.proofs.prev_corner.Reads as prev-corner-reads
 
 abbrev Inv-loop : tie.InvT-loop
 Inv-loop words links nf s at₀ n₀ at n =

@@ -20,10 +20,6 @@ use Rattle.faces.proofs.Trips.{first-passed}
 use Rattle.faces.proofs.Rings.{store-more, store-all, inner-at, ring-held}
 use Rattle.faces.proofs.inner_ring.Statement.{statement}
 use Rattle.faces.proofs.inner_ring.Tie as tie
-use Rattle.faces.proofs.inner_ring.Reads as reads
-use Rattle.faces.proofs.inner_ring.Lts as lts
-use Rattle.faces.proofs.next_corner.Reads as next-corner-reads
-use Rattle.faces.proofs.onward.Reads as onward-reads
 
 abbrev Inv-loop : tie.InvT-loop
 Inv-loop words corners links nf s out₀ at₀ n₀ out at n =

@@ -5,10 +5,6 @@ use Rattle.faces.proofs.Links.{link-word}
 use borrow.Author.Needs.{needs}
 use Rattle.faces.proofs.next_corner.Statement.{statement}
 use Rattle.faces.proofs.next_corner.Tie as tie
-use Rattle.faces.proofs.next_corner.Reads as reads
-use Rattle.faces.proofs.next_corner.Lts as lts
-use Rattle.faces.proofs.onward.Reads as onward-reads
-use Rattle.faces.proofs.step_to.Reads as step-to-reads
 
 add-t : tie.Need-add-t
 add-t c = search needs

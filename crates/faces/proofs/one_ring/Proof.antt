@@ -11,11 +11,6 @@ use Rattle.faces.proofs.Trails.{faces-in, filled, from-corner, last-bel
 use borrow.Author.Needs.{needs}
 use Rattle.faces.proofs.one_ring.Statement.{statement}
 use Rattle.faces.proofs.one_ring.Tie as tie
-use Rattle.faces.proofs.one_ring.Reads as reads
-use Rattle.faces.proofs.one_ring.Lts as lts
-use Rattle.faces.proofs.inner_ring.Reads as inner-ring-reads
-use Rattle.faces.proofs.rim_ring.Reads as rim-ring-reads
-use Rattle.faces.proofs.turn_round.Reads as turn-round-reads
 
 turn-round-requires : tie.Need-turn-round-requires
 turn-round-requires c κs = search needs

@@ -5,10 +5,6 @@ use Rattle.faces.proofs.Links.{link-word}
 use borrow.Author.Needs.{needs}
 use Rattle.faces.proofs.prev_corner.Statement.{statement}
 use Rattle.faces.proofs.prev_corner.Tie as tie
-use Rattle.faces.proofs.prev_corner.Reads as reads
-use Rattle.faces.proofs.prev_corner.Lts as lts
-use Rattle.faces.proofs.backward.Reads as backward-reads
-use Rattle.faces.proofs.step_to.Reads as step-to-reads
 
 backward-requires : tie.Need-backward-requires
 backward-requires c κs = search needs

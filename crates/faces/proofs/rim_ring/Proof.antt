@@ -23,11 +23,6 @@ use Rattle.faces.proofs.Trips.{first-passed}
 use Rattle.faces.proofs.Rings.{store-more, store-all, rim-at, ring-held}
 use Rattle.faces.proofs.rim_ring.Statement.{statement}
 use Rattle.faces.proofs.rim_ring.Tie as tie
-use Rattle.faces.proofs.rim_ring.Reads as reads
-use Rattle.faces.proofs.rim_ring.Lts as lts
-use Rattle.faces.proofs.backward.Reads as backward-reads
-use Rattle.faces.proofs.onward.Reads as onward-reads
-use Rattle.faces.proofs.prev_corner.Reads as prev-corner-reads
 
 abbrev Inv-loop : tie.InvT-loop
 Inv-loop words corners links nf end out₀ at₀ n₀ out at n =

@@ -1,8 +1,6 @@
 use borrow.Author.Needs.{needs}
 use Rattle.faces.proofs.rim_turn.Statement.{statement}
 use Rattle.faces.proofs.rim_turn.Tie as tie
-use Rattle.faces.proofs.rim_turn.Reads as reads
-use Rattle.faces.proofs.rim_turn.Lts as lts
 
 enum-told : tie.Need-enum-told
 enum-told c = search needs

@@ -1,8 +1,6 @@
 use borrow.Author.Tests.{eq-eqb, ne-eqb}
 use Rattle.faces.proofs.step_to.Statement.{statement}
 use Rattle.faces.proofs.step_to.Tie as tie
-use Rattle.faces.proofs.step_to.Reads as reads
-use Rattle.faces.proofs.step_to.Lts as lts
 
 returns : tie.Need-returns
 returns c = simp (eq-eqb _ _ (c .if1 .taken))

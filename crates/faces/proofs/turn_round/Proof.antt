@@ -10,11 +10,6 @@ use Rattle.faces.proofs.Trails.{faces-in, filled, from-corner, end-belo
 use borrow.Author.Needs.{needs}
 use Rattle.faces.proofs.turn_round.Statement.{statement}
 use Rattle.faces.proofs.turn_round.Tie as tie
-use Rattle.faces.proofs.turn_round.Reads as reads
-use Rattle.faces.proofs.turn_round.Lts as lts
-use Rattle.faces.proofs.by_next.Reads as by-next-reads
-use Rattle.faces.proofs.by_prev.Reads as by-prev-reads
-use Rattle.faces.proofs.rim_turn.Reads as rim-turn-reads
 
 by-next-requires : tie.Need-by-next-requires
 by-next-requires c κs = search needs

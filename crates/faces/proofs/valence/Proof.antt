@@ -2,8 +2,6 @@ use native.Mathlib.Omega.{arith}
 use borrow.Author.Needs.{needs}
 use Rattle.faces.proofs.valence.Statement.{statement}
 use Rattle.faces.proofs.valence.Tie as tie
-use Rattle.faces.proofs.valence.Reads as reads
-use Rattle.faces.proofs.valence.Lts as lts
 
 enum-known-t : tie.Need-enum-known-t
 enum-known-t c = search needs
