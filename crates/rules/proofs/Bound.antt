@@ -59,9 +59,8 @@ control (x ∷ xs) = cons (close-whole x) (control xs)
 pub bound-by : (round : ℤ → ℕ → ℤ) → Rounds round → (l : ℕ) (fs : List ℕ) (xs : List ℤ) (c v : ℕ)
     → Within (l + 1) (coord (wholeBy round) (positions (wholeBy round) (last (wholeBy round) l fs xs)) c v) (coord exact (exactLimits l fs xs) c v)
 bound-by round N l fs xs c v =
-    let k : l + 1 ≡ suc (0 + l) = omega arith in
     let p = related-positions (wholeBy round) exact Close (keeps-close round N) l 0 (cage (length xs / 3) fs) xs (map ofWhole xs) (control xs) in
-    rw (k, length-map xs ofWhole) (within (pairs-at (Close (suc (0 + l))) (pos 0) (ofWhole (pos 0)) close-zero p (3 * v + c)))
+    rw (length-map xs ofWhole) (within (close-as (omega arith) (pairs-at (Close (suc (0 + l))) (pos 0) (ofWhole (pos 0)) close-zero p (3 * v + c))))
 
 -- and so for the engine's own rounding
 pub demand-3 : (l : ℕ) (fs : List ℕ) (xs : List ℤ) (c v : ℕ) → Within (l + 1) (coord whole (positions whole (last whole l fs xs)) c v) (coord exact (exactLimits l fs xs) c v)

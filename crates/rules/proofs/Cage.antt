@@ -34,7 +34,8 @@ last-starts fs v i h e =
     let ks = keep p (count 0 (length fs)) in
     let one : length ks ≡ suc _ = length-keep p (count 0 (length fs)) ∙ tally-without p i (length fs) h (eq→eqb e) in
     let k : Kept p 0 (length fs) (length ks - 1) (getD ks (length ks - 1) 0) = kept p 0 (length fs) (length ks - 1) (omega arith) in
-    rw (last-at 0 ks (omega arith)) (record { below = omega (arith, k .below); at = eqb→eq (corner fs (getD ks (length ks - 1) 0)) v (k .passes) })
+    let last : lastCorner fs v ≡ getD ks (length ks - 1) 0 = last-at 0 ks (omega arith) in
+    rw last (record { below = omega (arith, k .below); at = eqb→eq (corner fs (getD ks (length ks - 1) 0)) v (k .passes) })
 
 not-parted : (n : ℕ) (fs : List ℕ) (s : ℕ) (f : Fan) → Turned n fs s f → (t : ℕ) → T (not (not (isEndless f) && ltb (length (corners f)) t)) → t ≤ length (corners f)
 not-parted n fs s _ (round cs r) t h = nltb→le (length cs) t h

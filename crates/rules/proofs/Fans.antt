@@ -181,5 +181,5 @@ module _ (v n : ℕ) (fs : List ℕ) (g : Good v n fs) where
 
 pub valence-as : (r : ℕ → ℕ) (f : Fan) → valence (mapFan r f) ≡ valence f
 valence-as r (inner cs) = length-map cs r
-valence-as r (rim cs) = ap suc (length-map cs r)
+valence-as r (rim cs) = omega (arith, length-map cs r)
 valence-as r endless = refl
