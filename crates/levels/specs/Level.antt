@@ -1,12 +1,14 @@
 -- One level over lent words: what a mesh in the words is, what each step of the level writes, and what stands there afterwards. Assumes nothing.
 use Prim.Native.Nat.{ℕ, zero, suc, _+_, _*_, _≤_, _<_}
 use mathlib.Core.Path.{_≡_}
+use mathlib.Core.Logic.{_⊎_}
 use mathlib.Core.List.{List, [], _∷_}
 use mathlib.Core.Option.{Option, none, some}
 use lib.ListN.{length, getD, drop}
 use Rattle.lists.specs.Lists.{part}
 use Rattle.rules.specs.Mesh.{onward, backward, corner, links, through, Mesh, firsts, four, restart, refined}
-use Rattle.faces.specs.Words.{linkOf, coded, Holds}
+use Rattle.rules.proofs.Sound.{Sound}
+use Rattle.faces.specs.Words.{linkOf, coded, linksIn, Holds}
 
 -- the mesh of n faces and v vertices that stands from `at` on
 abbrev pub meshIn : List ℕ → ℕ → ℕ → ℕ → Mesh
@@ -43,6 +45,16 @@ twelveWords f a b c =
 
 abbrev pub linksBy : List ℕ → ℕ → List ℕ
 linksBy ws f = twelveWords f (getD ws (3 * f) 0) (getD ws (3 * f + 1) 0) (getD ws (3 * f + 2) 0)
+
+-- what a level asks of the words: a sound mesh with its links stands at `at`, with room for the numbers of its sides after it, and with room for the refined mesh
+-- at `to`, apart from both. Every accepted cage meets it, at every level
+pub record Ready (w : List ℕ) (at to n v : ℕ) : Type 0 where
+  pub sound : Sound n (meshIn w at n v)
+  pub linked : linksIn w (at + 3 * n) (3 * n) ≡ links (part at (3 * n) w)
+  pub old : at + 9 * n + v ≤ length w
+  pub new : to + 24 * n + (v + length (firsts (links (part at (3 * n) w)))) ≤ length w
+  pub apart : (at + 9 * n + v ≤ to) ⊎ (to + 24 * n + (v + length (firsts (links (part at (3 * n) w)))) ≤ at)
+  pub small : v + 12 * n + 16 < 4294967296
 
 -- words w₀ in which a mesh stands at `at` have become w, in which the refined mesh stands at `to`; the numbers of its sides stand after the old mesh, and what
 -- lies after both is as it was

@@ -7,9 +7,9 @@ ghost use mathlib.Core.List.{List, [], _∷_, map};
 ghost use lib.ListN.{length, getD};
 ghost use lib.Seq.{sets};
 ghost use Rattle.lists.specs.Lists.{pick, bit, count, gather, part};
-ghost use Rattle.rules.specs.Mesh.{isFirst, firstMet, firsts, middle, four, restart, fourth};
+ghost use Rattle.rules.specs.Mesh.{links, isFirst, firstMet, firsts, middle, four, restart, fourth};
 ghost use Rattle.faces.specs.Words.{linkOf, linksIn};
-ghost use Rattle.levels.specs.Level.{Below, Mutual, childrenBy, firstHalf, secondHalf, twelveWords, linksBy};
+ghost use Rattle.levels.specs.Level.{Below, Mutual, childrenBy, firstHalf, secondHalf, twelveWords, linksBy, Ready, Grown};
 
 // Whether side s, with link word w, is the one at which its edge is first met: the side across is no earlier one.
 fn first_met(w: u32, s: u32) -> bool
@@ -200,4 +200,22 @@ fn new_starts(words: &mut [u32], links: usize, to: usize, sides: usize)
         }
         s = s + 1;
     }
+}
+
+// One level of the words: the mesh at `at` is refined, and the refined one stands at `to` with its links and its start corners. Answers how many vertices are new.
+pub fn refine_words(words: &mut [u32], at: usize, to: usize, nf: usize, nv: usize) -> usize
+    requires { ⌜ Ready (now words) at to nf nv ⌝ }
+    ensures edges { λ r. ⌜ r ≡ length (firsts (links (part at (3 * nf) (now (words .entry))))) ⌝ }
+    ensures words { λ r. ⌜ Grown (now (words .entry)) (now (words .exit)) at to nf nv ⌝ }
+{
+    let sides = 3 * nf;
+    let linked = at + 3 * nf;
+    let starts = at + 6 * nf;
+    let mids = at + 6 * nf + nv;
+    let edges = number(words, linked, mids, sides, nv);
+    children(words, at, mids, to, nf);
+    child_links(words, linked, to + 12 * nf, nf);
+    old_starts(words, starts, to + 24 * nf, nv, sides);
+    new_starts(words, linked, to + 24 * nf + nv, sides);
+    edges
 }
