@@ -64,12 +64,6 @@ module _ {ℓ} {A : Type ℓ} where
       let e : 0 + length (take k w) ≡ k = zero-add _ ∙ length-take-le k w (omega arith) in
       rw (add-one, take-suc w k d h) (rw e at (sets-append (take k w) (getD w k d ∷ []) l 0))
 
-  -- the same from `at` on
-  pub copy-at : (l w : List A) (at k : ℕ) (d : A) → k < length w → set (sets l at (take k w)) (at + k) (getD w k d) ≡ sets l at (take (k + 1) w)
-  copy-at l w at k d h =
-      let e : at + length (take k w) ≡ at + k = ap (λ (n : ℕ). at + n) (length-take-le k w (omega arith)) in
-      rw (add-one, take-suc w k d h) (rw e at (sets-append (take k w) (getD w k d ∷ []) l at))
-
   -- one entry cleared
   clear-suc : (n : ℕ) (v : A) (d : List A) → n < length d → set (replicate n v ++ drop n d) n v ≡ replicate (suc n) v ++ drop (suc n) d
   clear-suc n v [] l = absurd (omega arith)
