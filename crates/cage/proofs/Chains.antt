@@ -8,7 +8,7 @@ use mathlib.Core.List.{List}
 use mathlib.Core.Option.{Option, none, some}
 use lib.Dec.{T, T-not, not-T, eqb, ltb, eqb→eq}
 use lib.Ieee.Fits.{and-i, and-l, and-r, eq→eqb}
-use lib.ListN.{length, getD, set, length-set, take, getD-replicate, replicate}
+use lib.ListN.{length, getD, set, length-set, take, replicate, getD-replicate, length-replicate}
 use lib.Seq.{getD-set-same, getD-set-other, getD-take, length-take-le}
 use borrow.Author.Tests.{eq-eqb, ne-eqb, eqb-true, eqb-false, lt-ltb, le-ltb}
 use Rattle.lists.specs.Lists.{pick, find, found}
@@ -105,14 +105,14 @@ last-same p q (suc k) e = rw (e k, last-same p q k e)
 
 -- ---- along a chain
 
-module _ (fs : List ℕ) where
-  eqb-sym : (a b : ℕ) → eqb a b ≡ eqb b a
-  eqb-sym a b = go (eqb b a) refl
-    where
-      go : (x : Bool) → eqb b a ≡ x → eqb a b ≡ x
-      go true e = eq-eqb a b (sym (eqb-true b a e))
-      go false e = ne-eqb a b (λ z. eqb-false b a e (sym z))
+pub eqb-sym : (a b : ℕ) → eqb a b ≡ eqb b a
+eqb-sym a b = go (eqb b a) refl
+  where
+    go : (x : Bool) → eqb b a ≡ x → eqb a b ≡ x
+    go true e = eq-eqb a b (sym (eqb-true b a e))
+    go false e = ne-eqb a b (λ z. eqb-false b a e (sym z))
 
+module _ (fs : List ℕ) where
   runs-leaves : (a b k : ℕ) → leaves fs a k ≡ false → runs fs a b k ≡ false
   runs-leaves a b k e = rw (eqb-sym a (corner fs k), e)
 
@@ -168,6 +168,14 @@ module _ (fs : List ℕ) (s : ℕ) where
 
   pub chained-more : (nexts : List ℕ) (x : ℕ) → x ≡ lastBelow (leaves fs (corner fs s)) s → s < length nexts → Chained fs s nexts → Chained fs (s + 1) (set nexts s x)
   chained-more nexts x q l h = record { room = rw length-set (h .room); next = λ k p. chained-by (eqb k s) nexts x k refl l p q h }
+
+-- before the first side
+
+pub heads-none : (fs : List ℕ) (n : ℕ) → Heads fs 0 (replicate n 0)
+heads-none fs n = record { head = λ a h. getD-replicate n a 0 0 (rw (length-replicate {A = ℕ} n 0) at h) ∙ sym (last-none (leaves fs a)) }
+
+pub chained-none : (fs : List ℕ) (n : ℕ) → length fs ≤ n → Chained fs 0 (replicate n 0)
+chained-none fs n h = record { room = rw (length-replicate {A = ℕ} n 0) h; next = λ s l. absurd (omega arith) }
 
 -- ---- check 7
 

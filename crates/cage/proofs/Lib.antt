@@ -1,3 +1,4 @@
 pub mod Search
 pub mod Chains
 pub mod Across
+pub mod Rounds

@@ -1,5 +1,5 @@
 -- Sides by the vertex they leave, chained from each to the one before it. Assumes nothing.
-use Prim.Native.Nat.{ℕ, zero, suc, _+_, _*_, _%_, _≤_, _<_}
+use Prim.Native.Nat.{ℕ, zero, suc, _+_, _-_, _*_, _%_, _≤_, _<_}
 use mathlib.Core.Path.{_≡_}
 use mathlib.Core.Logic.{_≢_}
 use mathlib.Core.Bool.{Bool, false, _&&_}
@@ -47,6 +47,10 @@ pub record Heads (fs : List ℕ) (n : ℕ) (heads : List ℕ) : Type 0 where
 pub record Chained (fs : List ℕ) (n : ℕ) (nexts : List ℕ) : Type 0 where
   pub room : length fs ≤ length nexts
   pub next : (s : ℕ) → s < n → getD nexts s 0 ≡ lastBelow (leaves fs (corner fs s)) s
+
+-- a side from its place on a chain
+abbrev pub before : ℕ → ℕ
+before h = h - 1
 
 -- the side across side 0 of face f is one of an earlier face with the same far corner
 abbrev pub foldsBack : List ℕ → ℕ → Option ℕ → Bool

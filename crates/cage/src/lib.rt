@@ -1,13 +1,19 @@
 // Document 01, module 5: checks 1 to 13 in the order of its table, the lowest place first. No lent buffer is written here: what a check needs to
 // remember stands in local arrays.
 ghost use mathlib.Core.Path.{_≡_};
-ghost use Prim.Native.Nat.{_≤_};
+ghost use Prim.Native.Nat.{_+_, _≤_};
+ghost use mathlib.Core.List.{map};
 ghost use lib.ListN.{length};
+ghost use lib.Seq.{sets};
+ghost use Rattle.rules.specs.Mesh.{links, cage};
 ghost use Rattle.rules.specs.Position.{whole, single};
 ghost use Rattle.rules.specs.Refusals.{shapeRefusal, rangeRefusal};
+ghost use Rattle.faces.specs.Words.{coded};
 ghost use Rattle.cage.specs.Verdicts.{verdictOf};
+ghost use Rattle.cage.specs.Chains.{Faces, Below, Once};
 use rules::Refusal;
 
+pub mod fans;
 pub mod list;
 pub mod sides;
 
@@ -81,4 +87,27 @@ pub fn single_range(coords: &[f32]) -> Check
         i = i + 1;
     }
     Check::Pass
+}
+
+// The link words of a control cage.
+pub fn link_words(indices: &[u32], words: &mut [u32], at: usize)
+    requires sizes { ⌜ Faces (now indices) × Below 4096 (now indices) × (at + length (now indices) ≤ length (now words)) ⌝ }
+    requires once { ⌜ Once (now indices) ⌝ }
+    ensures { λ r. ⌜ now (words .exit) ≡ sets (now (words .entry)) at (map coded (links (now (indices .entry)))) ⌝ }
+{
+    let mut heads = [0u32; 4096];
+    let mut nexts = [0u32; 12288];
+    sides::chain(indices, &mut heads, &mut nexts);
+    sides::put_links(indices, &heads, &nexts, words, at);
+}
+
+// The start corners of its v vertices.
+pub fn start_words(indices: &[u32], v: usize, words: &mut [u32], at: usize)
+    requires { ⌜ Faces (now indices) × Below 4096 (now indices) × (v ≤ 4096) × (at + v ≤ length (now words)) ⌝ }
+    ensures { λ r. ⌜ now (words .exit) ≡ sets (now (words .entry)) at (cage v (now (indices .entry)) .starts) ⌝ }
+{
+    let mut heads = [0u32; 4096];
+    let mut nexts = [0u32; 12288];
+    sides::chain(indices, &mut heads, &mut nexts);
+    sides::put_starts(&heads, v, words, at);
 }

@@ -2,11 +2,11 @@
 ghost use mathlib.Core.Path.{_≡_};
 ghost use Prim.Native.Nat.{_+_, _-_, _≤_, _<_};
 ghost use mathlib.Core.List.{map};
-ghost use lib.ListN.{length};
+ghost use lib.ListN.{length, take};
 ghost use lib.Seq.{sets};
 ghost use Rattle.rules.specs.Mesh.{onward, corner, links};
 ghost use Rattle.faces.specs.Words.{coded};
-ghost use Rattle.cage.specs.Chains.{lastBelow, runs, Faces, Below, Once, Heads, Chained};
+ghost use Rattle.cage.specs.Chains.{lastBelow, runs, Faces, Below, Once, Heads, Chained, before};
 
 // Where side s ends.
 pub fn end_of(indices: &[u32], s: usize) -> u32
@@ -62,5 +62,25 @@ pub fn put_links(indices: &[u32], heads: &[u32], nexts: &[u32], words: &mut [u32
         let t = seek(indices, nexts, heads[b], indices[s]);
         words[at + s] = t;
         s = s + 1;
+    }
+}
+
+// The side at that place of a chain; 0 where the chain is empty.
+pub fn side_of(h: u32) -> u32
+    ensures { λ r. ⌜ r ≡ before h ⌝ }
+{
+    if h == 0 { 0 } else { h - 1 }
+}
+
+// A vertex starts at the last corner in the list that is it.
+pub fn put_starts(heads: &[u32], v: usize, words: &mut [u32], at: usize)
+    requires { ⌜ (v ≤ length (now heads)) × (at + v ≤ length (now words)) ⌝ }
+    ensures { λ r. ⌜ now (words .exit) ≡ sets (now (words .entry)) at (map before (take v (now (heads .entry)))) ⌝ }
+{
+    let mut u = 0;
+    while u < v {
+        let s = side_of(heads[u]);
+        words[at + u] = s;
+        u = u + 1;
     }
 }

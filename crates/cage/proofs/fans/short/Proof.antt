@@ -1,0 +1,26 @@
+use borrow.Author.Needs.{needs}
+use Rattle.cage.proofs.fans.short.Statement.{statement}
+use Rattle.cage.proofs.fans.short.Tie as tie
+use Rattle.cage.proofs.fans.short.Reads as reads
+use Rattle.cage.proofs.fans.short.Lts as lts
+
+enum-known-t : tie.Need-enum-known-t
+enum-known-t c = search needs
+
+enum-known-t-2 : tie.Need-enum-known-t-2
+enum-known-t-2 c = search needs
+
+enum-told : tie.Need-enum-told
+enum-told c = search needs
+
+returns : tie.Need-returns
+returns c = rw (c .before .t .given .1)
+
+returns-2 : tie.Need-returns-2
+returns-2 c = rw (c .before .t2 .given .1)
+
+returns-3 : tie.Need-returns-3
+returns-3 c = search needs
+
+pub short-spec : {M : Type 1} → statement M
+short-spec = tie.close (tie.spec enum-known-t enum-known-t-2 enum-told returns returns-2 returns-3)
