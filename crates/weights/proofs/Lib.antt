@@ -1,2 +1,4 @@
-pub mod Points
+pub mod Floats
 pub mod Means
+pub mod Joins
+pub mod Gathered

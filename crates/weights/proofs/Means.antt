@@ -53,7 +53,7 @@ number-at [] k = refl
 number-at (v ∷ vs) zero = refl
 number-at (v ∷ vs) (suc k) = number-at vs k
 
-length-first : (vs : List VertNo) (n : ℕ) → n ≤ length vs → length (numbers (take n vs)) ≡ n
+pub length-first : (vs : List VertNo) (n : ℕ) → n ≤ length vs → length (numbers (take n vs)) ≡ n
 length-first vs n h = length-map (take n vs) (λ v. v .0) ∙ length-take-le n vs h
 
 pub ends-are : (vs : List VertNo) (n : ℕ) → 0 < n → n ≤ length vs → ends (numbers (take n vs)) ≡ getD vs 0 none .0 ∷ getD vs (n - 1) none .0 ∷ []

@@ -3,11 +3,15 @@ use Prim.Native.Nat.{ℕ, _+_, _-_, _*_, min, max, _≤_, _<_}
 use mathlib.Core.Path.{_≡_}
 use mathlib.Core.Bool.{Bool}
 use mathlib.Core.List.{List, [], _∷_, map}
-use lib.ListN.{length, take, getD}
+use lib.ListN.{length, take, getD, replicate}
+use lib.Seq.{sets}
+use lib.Ieee.{Float}
 use lib.IntN.{ℤ, pos, _+ℤ_, _*ℤ_}
 use Rattle.lists.specs.Lists.{pick}
 use Rattle.whole.specs.Whole.{reach, Near, nearest, lower}
-use Rattle.rules.specs.Position.{Stage, Rule, each, outOf, Numbers, sum}
+use Rattle.vectors.specs.declared.Vec3.{Vec3}
+use Rattle.vectors.specs.Vectors.{origin}
+use Rattle.rules.specs.Position.{Stage, Rule, each, outOf, Numbers, sum, single}
 use Rattle.rules.specs.Levels.{ends, coord}
 use Rattle.faces.specs.declared.VertNo.{VertNo}
 use Rattle.faces.specs.declared.Ring.{Ring}
@@ -44,6 +48,27 @@ module _ (𝓝 : Numbers) where
 
   abbrev pub within : List (𝓝 .N) → ℕ → ℕ → ℕ → ℕ → ℕ → 𝓝 .N
   within xs a b d e c = eighthway xs (min a b) (max a b) d e c
+
+-- ---- f32
+
+-- the coordinates of vertex v are there
+pub record There (xs : List Float) (v : ℕ) : Type 0 where
+  pub room : 3 * v + 3 ≤ length xs
+
+-- and those of the first n of vs
+pub record AllThere (xs : List Float) (vs : List VertNo) (n : ℕ) : Type 0 where
+  pub few : n ≤ 16
+  pub at : (k : ℕ) → k < n → There xs (getD vs k (record { 0 = 0 }) .0)
+
+abbrev pub pointAt : List Float → ℕ → Vec3
+pointAt xs v = record { x = coord single xs 0 v; y = coord single xs 1 v; z = coord single xs 2 v }
+
+abbrev pub listed : Vec3 → List Float
+listed p = p .x ∷ p .y ∷ p .z ∷ []
+
+-- sixteen places, the points first; the origin stands in the others
+abbrev pub sixteen : List Vec3 → List Vec3
+sixteen ps = sets (replicate 16 origin) 0 ps
 
 -- ---- whole micrometres
 

@@ -2,7 +2,7 @@ use mathlib.Core.Path.{sym, ap, _∙_}
 use borrow.Author.Tests.{ne-eqb}
 use borrow.Author.Needs.{needs}
 use Rattle.rules.specs.Position.{beta}
-use Rattle.weights.proofs.Points.{three, eight, three-sixteenths}
+use Rattle.weights.proofs.Floats.{three, eight, three-sixteenths}
 use Rattle.weights.proofs.beta.Statement.{statement}
 use Rattle.weights.proofs.beta.Tie as tie
 

@@ -1,5 +1,5 @@
 use borrow.Author.Needs.{needs}
-use Rattle.weights.proofs.Points.{three-eighths, eighth, weighs, adds}
+use Rattle.weights.proofs.Floats.{three-eighths, eighth, weighs, adds}
 use Rattle.weights.proofs.edge_inner.Statement.{statement}
 use Rattle.weights.proofs.edge_inner.Tie as tie
 

@@ -1,5 +1,5 @@
 use borrow.Author.Needs.{needs}
-use Rattle.weights.proofs.Points.{half, weighs, adds}
+use Rattle.weights.proofs.Floats.{half, weighs, adds}
 use Rattle.weights.proofs.edge_rim.Statement.{statement}
 use Rattle.weights.proofs.edge_rim.Tie as tie
 

@@ -1,5 +1,5 @@
 use borrow.Author.Needs.{needs}
-use Rattle.weights.proofs.Points.{one, three, eight}
+use Rattle.weights.proofs.Floats.{one, three, eight}
 use Rattle.weights.proofs.loop_gamma.Statement.{statement}
 use Rattle.weights.proofs.loop_gamma.Tie as tie
 

@@ -3,7 +3,7 @@ use Prim.Native.Nat.{_-_}
 use lib.ListN.{getD}
 use borrow.Author.Needs.{needs}
 use Rattle.weights.specs.Weights.{nowhere}
-use Rattle.weights.proofs.Points.{two, adds, weighs, own-is}
+use Rattle.weights.proofs.Floats.{two, adds, weighs, own-is}
 use Rattle.weights.proofs.weight_boundary.Statement.{statement}
 use Rattle.weights.proofs.weight_boundary.Tie as tie
 

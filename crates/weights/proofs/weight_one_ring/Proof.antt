@@ -7,7 +7,7 @@ use borrow.Author.Needs.{needs}
 use Rattle.vectors.specs.declared.Vec3.{Vec3}
 use Rattle.rules.specs.Position.{onto, ownWeight}
 use Rattle.weights.specs.Weights.{alike, nowhere}
-use Rattle.weights.proofs.Points.{adds, weighs, own-is, next, ring-is}
+use Rattle.weights.proofs.Floats.{adds, weighs, own-is, next, ring-is}
 use Rattle.weights.proofs.weight_one_ring.Statement.{statement}
 use Rattle.weights.proofs.weight_one_ring.Tie as tie
 

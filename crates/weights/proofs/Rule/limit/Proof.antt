@@ -1,5 +1,5 @@
 use borrow.Author.Needs.{needs}
-use Rattle.weights.proofs.Points.{fifth}
+use Rattle.weights.proofs.Floats.{fifth}
 use Rattle.weights.proofs.Rule.limit.Statement.{statement}
 use Rattle.weights.proofs.Rule.limit.Tie as tie
 

@@ -1,5 +1,5 @@
 use borrow.Author.Needs.{needs}
-use Rattle.weights.proofs.Points.{eighth}
+use Rattle.weights.proofs.Floats.{eighth}
 use Rattle.weights.proofs.Rule.refining.Statement.{statement}
 use Rattle.weights.proofs.Rule.refining.Tie as tie
 
