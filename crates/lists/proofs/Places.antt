@@ -268,3 +268,9 @@ gather-same f g n h = gather-from f g 0 n (λ k l m. h k (omega arith))
 pub map-gather : {A B C : Type 0} (h : B → C) (f : A → List B) (l : List A) → map h (gather f l) ≡ gather (λ x. map h (f x)) l
 map-gather h f [] = refl
 map-gather {C} h f (x ∷ l) = map-append h (f x) (gather f l) ∙ ap (λ (r : List C). map h (f x) ++ r) (map-gather h f l)
+
+-- an entry that is there, whatever stands past the end
+pub getD-any : {A : Type 0} (l : List A) (i : ℕ) (d e : A) → i < length l → getD l i d ≡ getD l i e
+getD-any [] i d e h = absurd (not-suc-le-zero h)
+getD-any (x ∷ l) zero d e h = refl
+getD-any (x ∷ l) (suc i) d e h = getD-any l i d e (le-of-suc-le-suc h)

@@ -9,7 +9,7 @@ use lib.ListN.{length, getD, set, take, replicate, length-map}
 use lib.Seq.{sets, getD-take, length-take-le, take-all}
 use lib.Ieee.{Float, nan}
 use Rattle.lists.specs.Lists.{pick}
-use Rattle.lists.proofs.Places.{getD-map}
+use Rattle.lists.proofs.Places.{getD-map, getD-any}
 use Rattle.lists.proofs.Stores.{part-of, getD-within, copy-more}
 use Rattle.vectors.specs.declared.Vec3.{Vec3}
 use Rattle.vectors.specs.Vectors.{origin}
@@ -21,20 +21,13 @@ use Rattle.weights.specs.Weights.{ruleOf, carried, alike, nowhere, first
 use Rattle.weights.specs.Lent.{numbers, byRing, listed, pointAt, sixteen}
 use Rattle.weights.proofs.Means.{none, number-at, length-first, ends-are}
 
--- an entry that is there, whatever stands past the end
-any : (l : List Float) (i : ℕ) (d e : Float) → i < length l → getD l i d ≡ getD l i e
-any [] i d e h = absurd (omega arith)
-any (x ∷ l) zero d e h = refl
-any (x ∷ l) (suc i) d e h = any l i d e (omega arith)
-
 pub point-is : (xs : List Float) (v : ℕ) (d : Float) → 3 * v + 3 ≤ length xs →
     _≡_ {A = Vec3} (record { x = getD xs (3 * v) d; y = getD xs (3 * v + 1) d; z = getD xs (3 * v + 2) d }) (pointAt xs v)
 point-is xs v d h =
-    rw (add-zero (3 * v), any xs (3 * v) d (single .nought) (omega arith), any xs (3 * v + 1) d (single .nought) (omega arith), any xs (3 * v + 2) d (single .nought) (omega arith))
+    rw (add-zero (3 * v), getD-any xs (3 * v) d (single .nought) (omega arith), getD-any xs (3 * v + 1) d (single .nought) (omega arith), getD-any xs (3 * v + 2) d (single .nought) (omega arith))
 
 -- ---- what g gives of the first n vertices of a ring
 module _ {A : Type 0} (g : ℕ → A) (vs : List VertNo) (n : ℕ) (h : n ≤ length vs) where
-
   pub gathered-length : length (map g (numbers (take n vs))) ≡ n
   gathered-length = length-map (numbers (take n vs)) g ∙ length-first vs n h
 

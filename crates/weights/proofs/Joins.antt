@@ -8,6 +8,7 @@ use mathlib.Core.List.{List, [], _∷_, map}
 use mathlib.Core.Option.{Option, none, some}
 use lib.ListN.{length, getD, take, length-map}
 use lib.IntN.{ℤ}
+use lib.Ieee.{Float}
 use Rattle.lists.proofs.Places.{getD-map}
 use Rattle.rules.specs.Mesh.{onward, backward, corner, links, Fan, inner, rim, endless, fan, valence, ring, Mesh}
 use Rattle.rules.specs.Position.{Stage, ringRule, rimRule, Numbers}
@@ -21,7 +22,7 @@ use Rattle.rules.proofs.Range.{AllNear}
 use Rattle.faces.specs.Rings.{vert, held, ringOf}
 use Rattle.faces.specs.declared.Ring.{Ring}
 use Rattle.faces.proofs.Held.{length-ring, held-front, held-at}
-use Rattle.weights.specs.Lent.{numbers, byRing, onRim, within, Readable, AllReadable}
+use Rattle.weights.specs.Lent.{numbers, byRing, onRim, within, There, AllThere, Readable, AllReadable}
 
 -- ---- the vertices of a ring that is held
 
@@ -71,6 +72,9 @@ ringAt m u = ringOf (m .faces) (fan (links (m .faces)) (getD (m .starts) u 0))
 pub readable : {xs : List ℤ} {v u : ℕ} → 3 * v ≤ length xs → AllNear xs → u < v → Readable xs u
 readable {u} l a h = record { room = omega arith; near = λ c k. a .at (3 * u + c) }
 
+pub there : {xs : List Float} {v u : ℕ} → 3 * v ≤ length xs → u < v → There xs u
+there l h = record { room = omega arith }
+
 module _ (n : ℕ) (m : Mesh) (p : Sound n m) (few : Small 16 m) (u : ℕ) (h : u < m .verts) where
   small : valence (fan (links (m .faces)) (getD (m .starts) u 0)) ≤ 16
   unfolding Small
@@ -92,6 +96,9 @@ module _ (n : ℕ) (m : Mesh) (p : Sound n m) (few : Small 16 m) (u : ℕ) (h : 
 
   pub ring-readable : {xs : List ℤ} → 3 * m .verts ≤ length xs → AllNear xs → AllReadable xs (ringAt m u .v) (ringAt m u .n)
   ring-readable l a = record { few = ring-few; at = λ k q. readable l a (ring-below k q) }
+
+  pub ring-there : {xs : List Float} → 3 * m .verts ≤ length xs → AllThere xs (ringAt m u .v) (ringAt m u .n)
+  ring-there l = record { few = ring-few; at = λ k q. there l (ring-below k q) }
 
   pub moved-by : (𝓝 : Numbers) (s : Stage) (xs : List (𝓝 .N)) → three 𝓝 (byRing 𝓝 s xs u (ringAt m u)) ≡ moved 𝓝 s m (links (m .faces)) xs u
   unfolding moved

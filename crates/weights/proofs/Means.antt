@@ -2,12 +2,12 @@
 use Prim.Native.Nat.{ℕ, zero, suc, _+_, _-_, _*_, min, max, _≤_, _<_}
 use mathlib.Core.Path.{_≡_, refl, sym, ap, _∙_}
 use mathlib.Core.Bool.{Bool, true, false}
-use mathlib.Core.List.{List, [], _∷_, _++_, map}
+use mathlib.Core.List.{List, [], _∷_, _++_, map, map-append}
 use native.Mathlib.Omega.{arith}
 use native.Mathlib.Numerals.{add-one}
 use native.Mathlib.Nat.{mul-le-mul-left}
-use lib.ListN.{length, getD, set, take, length-map}
-use lib.Seq.{sets, take-suc, getD-take, length-take-le}
+use lib.ListN.{length, getD, take, length-map}
+use lib.Seq.{take-suc, getD-take, length-take-le}
 use lib.IntN.{ℤ, pos, _+ℤ_, _*ℤ_, +ℤ-idl, +ℤ-idr, +ℤ-assoc}
 use borrow.Author.Tests.{leb-true, leb-false}
 use lib.Dec.{leb, eqb}
@@ -34,10 +34,6 @@ raised-of {s} {w} e h = record { same = rw (sym e) (is-sub s (w * reach)); most 
 sum-more : (l : List ℤ) (x : ℤ) → sum (l ++ (x ∷ [])) ≡ sum l +ℤ x
 sum-more [] x = +ℤ-idr x ∙ sym (+ℤ-idl x)
 sum-more (y ∷ l) x = ap (λ z. y +ℤ z) (sum-more l x) ∙ sym (+ℤ-assoc y (sum l) x)
-
-map-more : {A B : Type 0} (f : A → B) (l : List A) (x : A) → map f (l ++ (x ∷ [])) ≡ map f l ++ (f x ∷ [])
-map-more f [] x = refl
-map-more f (y ∷ l) x = ap (λ t. f y ∷ t) (map-more f l x)
 
 -- what f gives of the vertices of a ring
 pub map-numbers : (f : ℕ → ℤ) (vs : List VertNo) → map f (numbers vs) ≡ map (λ v. f (v .0)) vs
@@ -75,7 +71,7 @@ length-weighing f r h = go (r .rim)
 pub raised-more : {A : Type 0} (f : A → ℤ) (l : List A) (i : ℕ) (d : A) {s t : ℕ} → i < length l →
     Raised s i (sum (map f (take i l))) → Raised t 1 (f (getD l i d)) → Raised (s + t) (i + 1) (sum (map f (take (i + 1) l)))
 raised-more f l i d h a b =
-    rw (add-one i, take-suc l i d h, map-more f (take i l) (getD l i d), sum-more (map f (take i l)) (f (getD l i d)))
+    rw (add-one i, take-suc l i d h, map-append f (take i l) (getD l i d ∷ []), sum-more (map f (take i l)) (f (getD l i d)))
     (rw (add-one i) at (raised-add a b))
 
 -- ---- what `rounded` gives of a sum of weight d
@@ -131,7 +127,3 @@ by-order P false a b e p q = let l = leb-false a b e in let x : min a b ≡ b = 
 
 pub readable-ends : {xs : List ℤ} {a b : ℕ} → Readable xs a → Readable xs b → Readable xs (min a b) × Readable xs (max a b)
 readable-ends {xs} {a} {b} p q = by-order (Readable xs) (leb a b) a b refl p q
-
--- ---- a row of three stores
-pub sets-three : {A : Type 0} (l : List A) (i : ℕ) (a b c : A) → set (set (set l i a) (i + 1) b) (i + 2) c ≡ sets l i (a ∷ b ∷ c ∷ [])
-sets-three l i a b c = let e : i + 2 ≡ suc (suc i) = omega arith in rw (add-one, e)

@@ -1,6 +1,10 @@
 // The rules in f32, over lent coordinates.
-use crate::{higher, lower, Rule, Stage};
-use faces::{Ring, VertNo};
+use crate::Rule;
+use crate::Stage;
+use crate::higher;
+use crate::lower;
+use faces::Ring;
+use faces::VertNo;
 use vectors::Vec3;
 ghost use mathlib.Core.Path.{_≡_};
 ghost use Prim.Native.Nat.{_+_, _*_, _<_, _≤_};
@@ -75,5 +79,10 @@ pub fn edge_inner(xs: &[f32], a: VertNo, b: VertNo, d: VertNo, e: VertNo) -> Vec
     requires { ⌜ There (now xs) (d .0) × There (now xs) (e .0) ⌝ }
     ensures { λ r. ⌜ listed r ≡ three single (within single (now (xs .entry)) (a .0) (b .0) (d .0) (e .0)) ⌝ }
 {
-    crate::edge_inner(point(xs, lower(a, b)), point(xs, higher(a, b)), point(xs, d), point(xs, e))
+    crate::edge_inner(
+        point(xs, lower(a, b)),
+        point(xs, higher(a, b)),
+        point(xs, d),
+        point(xs, e),
+    )
 }

@@ -1,7 +1,7 @@
 use native.Mathlib.Omega.{arith}
 use lib.ListN.{length-set}
 use borrow.Author.Needs.{needs}
-use Rattle.weights.proofs.Means.{sets-three}
+use Rattle.lists.proofs.Stores.{sets-three}
 use Rattle.weights.proofs.points.put.Statement.{statement}
 use Rattle.weights.proofs.points.put.Tie as tie
 
