@@ -3,3 +3,4 @@ pub mod Trips
 pub mod Trails
 pub mod Rings
 pub mod Held
+pub mod Readable
