@@ -133,6 +133,7 @@ fn vertex_lines(text: &mut [u8], from: usize, p: &[i32], n: usize) -> usize
 fn face_lines(text: &mut [u8], from: usize, w: &[u32], n: usize) -> usize
     requires { ⌜ (from + 65 * n ≤ length (now text)) × (3 * n ≤ length (now w)) ⌝ }
     ensures { λ r. ⌜ Put (now (text .entry)) from (rows (faceLine (now (w .entry))) n) (now (text .exit)) r ⌝ }
+    ensures { λ r. ⌜ r ≤ from + 65 * n ⌝ }
 {
     let mut at = from;
     for f in 0..n {
@@ -146,6 +147,7 @@ pub fn mesh_text(text: &mut [u8], c: Counts, positions: &[i32], indices: &[u32])
     requires lists { ⌜ (3 * c .vertices ≤ length (now positions)) × (3 * c .faces ≤ length (now indices)) ⌝ }
     requires room { ⌜ 68 + 68 * c .vertices + 65 * c .faces ≤ length (now text) ⌝ }
     ensures { λ r. ⌜ Put (now (text .entry)) 0 (meshText c (now (positions .entry)) (now (indices .entry))) (now (text .exit)) r ⌝ }
+    ensures { λ r. ⌜ r ≤ length (now (text .entry)) ⌝ }
 {
     let first = mesh_line(text, c);
     let second = vertex_lines(text, first, positions, c.vertices as usize);
@@ -155,6 +157,7 @@ pub fn mesh_text(text: &mut [u8], c: Counts, positions: &[i32], indices: &[u32])
 pub fn refused_text(text: &mut [u8], refusal: Refusal) -> usize
     requires { ⌜ 53 ≤ length (now text) ⌝ }
     ensures { λ r. ⌜ Put (now (text .entry)) 0 (refusedText refusal) (now (text .exit)) r ⌝ }
+    ensures { λ r. ⌜ r ≤ length (now (text .entry)) ⌝ }
 {
     let first = word(text, 0, b"refused");
     let second = spaced_number(text, first, refusal.number);

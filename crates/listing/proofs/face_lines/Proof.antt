@@ -40,7 +40,7 @@ returns : tie.Need-returns Inv-loop μ-loop
 returns c =
     let l = c .before .loop in
     let e : l .f ≡ c .before .before .before .before .args .n = omega arith in
-    rw e at (l .inv .1 .1 .1)
+    (rw e at (l .inv .1 .1 .1), omega arith)
 
 pub face-lines-spec : {M : Type 1} → statement M
 face-lines-spec =

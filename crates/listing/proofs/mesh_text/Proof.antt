@@ -1,3 +1,4 @@
+use native.Mathlib.Omega.{arith}
 use Rattle.listing.specs.Text.{meshText}
 use Rattle.listing.proofs.Laws.{put-put}
 use borrow.Author.Needs.{needs}
@@ -24,7 +25,7 @@ same-length c = search needs
 
 returns : tie.Need-returns
 unfolding meshText
-returns c = put-put (c .before .before .before .before .before .before .before .before .before .before .before .before .mesh-line .ensures .0) (put-put (c .before .before .before .before .before .before .before .vertex-lines .ensures .0) (c .before .before .face-lines .ensures))
+returns c = (put-put (c .before .before .before .before .before .before .before .before .before .before .before .before .mesh-line .ensures .0) (put-put (c .before .before .before .before .before .before .before .vertex-lines .ensures .0) (c .before .before .face-lines .ensures .0)), omega arith)
 
 pub mesh-text-spec : {M : Type 1} → statement M
 mesh-text-spec =

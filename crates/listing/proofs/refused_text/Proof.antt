@@ -1,3 +1,4 @@
+use native.Mathlib.Omega.{arith}
 use Rattle.listing.specs.Text.{refusedText}
 use Rattle.listing.proofs.Laws.{put-put}
 use borrow.Author.Needs.{needs}
@@ -30,7 +31,7 @@ same-length c = search needs
 
 returns : tie.Need-returns
 unfolding refusedText
-returns c = put-put (c .before .before .before .before .before .before .before .before .before .before .before .before .before .before .before .before .before .before .before .word .ensures) (put-put (c .before .before .before .before .before .before .before .before .before .before .before .before .before .before .before .spaced-number .ensures .0) (put-put (c .before .before .before .before .before .before .before .before .before .before .word2 .ensures) (put-put (c .before .before .before .before .before .before .spaced-number2 .ensures .0) (c .before .before .byte .ensures))))
+returns c = (put-put (c .before .before .before .before .before .before .before .before .before .before .before .before .before .before .before .before .before .before .before .word .ensures) (put-put (c .before .before .before .before .before .before .before .before .before .before .before .before .before .before .before .spaced-number .ensures .0) (put-put (c .before .before .before .before .before .before .before .before .before .before .word2 .ensures) (put-put (c .before .before .before .before .before .before .spaced-number2 .ensures .0) (c .before .before .byte .ensures)))), omega arith)
 
 pub refused-text-spec : {M : Type 1} → statement M
 refused-text-spec =
