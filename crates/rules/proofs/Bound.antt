@@ -1,9 +1,8 @@
 -- Demand 3: at l levels the whole engine is within (l + 1) / 2 of the exact limit position, whichever nearest whole number it rounds to. Assumes nothing.
-use mathlib.Core.Path.{_≡_, refl, sym, ap}
+use mathlib.Core.Path.{_≡_, sym, ap}
 use Prim.Native.Nat.{ℕ, suc, _+_, _*_, _/_}
 use native.Mathlib.Omega.{arith}
 use mathlib.Core.List.{List, [], _∷_, map}
-use mathlib.Core.Option.{none}
 use lib.ListN.{length, length-map}
 use lib.IntN.{ℤ, pos}
 use Rattle.lists.proofs.Pairs.{Pairs, nil, cons, pairs-at, pairs-length}
@@ -13,7 +12,7 @@ use Rattle.whole.proofs.Rounding.{Rounds}
 use Rattle.whole.proofs.Half.{nearest-rounds}
 use Rattle.whole.proofs.Nearness.{Close, within, close-zero, close-whole, close-plus, close-times, close-over}
 use Rattle.rules.specs.Mesh.{cage}
-use Rattle.rules.specs.Position.{Rule, each, outOf, own, Numbers, sum, total, wholeBy, whole, exact}
+use Rattle.rules.specs.Position.{Rule, each, outOf, own, sum, total, wholeBy, whole, exact}
 use Rattle.rules.specs.Levels.{coord, last, positions, exactLimits}
 use Rattle.rules.proofs.Weights.{AddsUp}
 use Rattle.rules.proofs.Related.{Keeps, related-positions}

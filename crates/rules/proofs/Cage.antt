@@ -41,7 +41,7 @@ not-parted : (n : ℕ) (fs : List ℕ) (s : ℕ) (f : Fan) → Turned n fs s f �
 not-parted n fs s _ (round cs r) t h = nltb→le (length cs) t h
 not-parted n fs s _ (fringe cs r) t h = nltb→le (length cs) t h
 
--- by Good and the checks 9 and 10
+-- by goodness and the checks 9 and 10
 module _ (v n : ℕ) (fs : List ℕ) (g : Good v n fs) (used : (u : ℕ) → u < v → T (found (find (eqb u) fs))) where
   start : (u : ℕ) → u < v → Starts fs u (lastCorner fs u)
   start u h = let w = used-at fs u (find (eqb u) fs) (look (eqb u) 0 fs) (used u h) in last-starts fs u (w .0) (w .1) (w .2)
@@ -53,7 +53,7 @@ module _ (v n : ℕ) (fs : List ℕ) (g : Good v n fs) (used : (u : ℕ) → u <
   unfolding cage
   start-is u h = getD-map (lastCorner fs) (count 0 v) u 0 0 (rw (length-count 0 v) h) ∙ ap (lastCorner fs) (getD-count 0 v u 0 h ∙ omega arith)
 
-  -- every fan of the cage ends, round or from rim to rim (request 8 rests on this)
+  -- every fan of the cage ends, round or from rim to rim
   pub cage-turned : (u : ℕ) → u < v → Turned n fs (lastCorner fs u) (fansOf v fs u)
   cage-turned u h = rw (start-is u h) (turned v n fs g (lastCorner fs u) (start-below u h))
 
@@ -79,7 +79,7 @@ module _ (v n : ℕ) (fs : List ℕ) (g : Good v n fs) (used : (u : ℕ) → u <
           (rw (start u h .at) (enough u h)) x k (q ∙ sym (start u h .at)));
     }
 
--- ---- refusal 11 is never given: it stays in the table until request 8 removes it
+-- ---- refusal 11 is never given, though the table has it
 
 not-endless : (n : ℕ) (fs : List ℕ) (s : ℕ) (f : Fan) → Turned n fs s f → T (not (isEndless f))
 not-endless n fs s _ (round cs r) = tt

@@ -157,7 +157,7 @@ module _ (fs : List ℕ) (n : ℕ) (size : length fs ≡ 3 * n) where
 
   module _ (apart : (s : ℕ) → s < 3 * n → corner fs s ≢ corner fs (onward s)) where
     -- two sides of one face are no twins
-    pub one-face : (s t : ℕ) → s < 3 * n → t / 3 ≡ s / 3 → corner fs t ≡ corner fs (onward s) → corner fs (onward t) ≡ corner fs s → ⊥
+    one-face : (s t : ℕ) → s < 3 * n → t / 3 ≡ s / 3 → corner fs t ≡ corner fs (onward s) → corner fs (onward t) ≡ corner fs s → ⊥
     one-face s t h e p q = go0 (ℕ-discrete t s)
       where
         go2 : ¬ (t ≡ s) → ¬ (t ≡ onward s) → Dec (t ≡ backward s) → ⊥
@@ -171,11 +171,6 @@ module _ (fs : List ℕ) (n : ℕ) (size : length fs ≡ 3 * n) where
         go0 : Dec (t ≡ s) → ⊥
         go0 (yes a) = apart s h (ap (corner fs) (sym a) ∙ p)
         go0 (no a) = go1 a (ℕ-discrete t (onward s))
-
-    -- check 8 as a fact of two faces
-    pub unfolded-of-sets : ((f k : ℕ) → f < n → k < n → T (sameSet fs f k) → f ≡ k) → (s t : ℕ) → s < 3 * n → Twins fs s t → corner fs (backward s) ≢ corner fs (backward t)
-    unfolded-of-sets sets s t h w z =
-        one-face s t h (sym (sets (s / 3) (t / 3) (omega arith) (omega (arith, w .below)) (set-of s t (w .from) (w .to) (sym z)))) (w .from) (w .to)
 
     module _ (e : lowest (λ f. found (lowest (sameSet fs f) f)) n ≡ none) where
       no-earlier : (f k : ℕ) → f < n → k < f → T (sameSet fs f k) → ⊥

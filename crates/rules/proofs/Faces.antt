@@ -98,7 +98,7 @@ module _ (v n : ℕ) (fs : List ℕ) (g : Good v n fs) where
       go (on p) = ca v n fs g s h (sym (w .to) ∙ ap (corner fs) (sym p) ∙ x .from ∙ ap (corner fs) (on-twice s))
       go (back p) = g .unfolded s t h w (ap (corner fs) (sym (on-twice s)) ∙ sym (x .from) ∙ ap (corner fs) p)
 
-  -- two faces share one rim at most
+  -- two faces share one edge at most
   pub one-edge : (s t a b : ℕ) → s < 3 * n → Twins fs s t → Twins fs a b → a / 3 ≡ s / 3 → b / 3 ≡ t / 3 → a ≡ s
   one-edge s t a b h w x e f = go (turn s a e)
     where

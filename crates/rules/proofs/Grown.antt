@@ -52,7 +52,7 @@ module _ (v n : ℕ) (fs : List ℕ) (g : Good v n fs) where
   twelve-at f (suc (suc (suc (suc (suc (suc (suc (suc (suc (suc (suc zero))))))))))) h k = cores _ (3 * f + 2) (3 * f) (omega arith) (omega arith) (omega arith)
   twelve-at f (suc (suc (suc (suc (suc (suc (suc (suc (suc (suc (suc (suc r)))))))))))) h k = absurd (omega arith)
 
-  -- THE KEY LAW
+  -- the links of the refined list, found by search, are a closed formula of the old links
   pub links-grown : links (finerOf v n fs) ≡ grown n (links fs)
   links-grown =
       let lg : length (grown n (links fs)) ≡ 12 * n = length-gather (twelve (links fs)) 12 (λ f. refl) (count 0 n) ∙ omega (arith, length-count 0 n) in

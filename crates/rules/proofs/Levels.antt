@@ -55,7 +55,7 @@ refined-faces n m w =
 refined-links : (n : ℕ) (m : Mesh) → Sound n m → links (refined m (links (m .faces)) .faces) ≡ grown n (links (m .faces))
 refined-links n m w = ap links (refined-faces n m w) ∙ links-grown (m .verts) n (m .faces) (w .good)
 
--- a linked engine has the mesh and the links of the plain one (request 12)
+-- links carried along are the links that a search would find, at every level
 pub carried-is : (l n : ℕ) (m : Mesh) → Sound n m → carried l n (record { mesh = m; links = links (m .faces) }) ≡ record { mesh = level l m; links = links (level l m .faces) }
 unfolding carried level
 carried-is zero n m w = refl

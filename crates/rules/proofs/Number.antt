@@ -19,7 +19,7 @@ first-self : (s : ℕ) (o : Option ℕ) → T (isFirst s o) → firstOf s o ≡ 
 first-self s none t = refl
 first-self s (some x) t = omega (arith, leb→le s x t)
 
--- the side at which an rim is first met, by the edge's number
+-- the side at which an edge is first met, by the edge's number
 pub record FirstAt (v n : ℕ) (fs : List ℕ) (i s : ℕ) : Type 0 where
   pub below : s < 3 * n
   pub first : T (firstMet (links fs) s)
@@ -48,7 +48,7 @@ module _ (v n : ℕ) (fs : List ℕ) (g : Good v n fs) where
       let m : meeting ls s ≡ s = first-self s (getD ls s none) (k .passes) in
       record { below = omega (arith, k .below, length-links fs, g .size); first = k .passes; is = rw m (ap (λ (x : ℕ). v + x) r) }
 
-  -- and the number of any side leads to the first of its rim
+  -- and the number of any side leads to the first of its edge
   pub first-of : (s : ℕ) → s < 3 * n → getD (firsts (links fs)) (midOf v fs s - v) 0 ≡ meeting (links fs) s
   first-of s h =
       let i = midOf v fs s - v in
@@ -60,7 +60,7 @@ module _ (v n : ℕ) (fs : List ℕ) (g : Good v n fs) where
       let r = rw z at (k .rank) in
       rank-inj (firstMet ls) a (meeting ls s) (k .passes) (meeting-first v n fs g s h) (omega (arith, r))
 
-  -- every number in the range is the number of an rim
+  -- every number in the range is the number of an edge
   pub middle-onto : (m : ℕ) → v ≤ m → m < v + edges v n fs g → (s : ℕ) × (s < 3 * n) × (midOf v fs s ≡ m)
   middle-onto m h k =
       let f = first-at (m - v) (omega arith) in
@@ -78,7 +78,7 @@ module _ (v n : ℕ) (fs : List ℕ) (g : Good v n fs) where
       go none e k = absurd k
       go (some t) e k = (t, e, nleb→lt s t k, middle-twin v n fs g s t h (twin-some fs s t (inside v n fs g h) e))
 
-  -- by looking through the face list (request 12): a side is the first of its rim where no side before it runs the other way
+  -- by looking through the face list, without links: a side is the first of its edge where no side before it runs the other way
   pub first-iff : (s : ℕ) → s < 3 * n → T (firstMet (links fs) s) ↔ ((t : ℕ) → t < s → ¬ Twins fs s t)
   first-iff s h = (λ f t l w. to (getD (links fs) s none) (link-is v n fs g s t h w) f l, λ k. from (getD (links fs) s none) refl k)
     where

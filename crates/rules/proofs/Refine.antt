@@ -14,7 +14,7 @@ use Rattle.rules.specs.Mesh.{firsts, onward, backward, corner, links, fi
 use Rattle.lists.proofs.Places.{length-count, getD-count, rank-inj, rank-lt, length-keep, length-gather, getD-gather}
 use Rattle.rules.proofs.Sides.{length-links, back-on, on-back, on-twice, on-below, Twins, Unique, twin-some, twin-is, twin-back}
 
--- what the checks 2, 5, 6, 7 and 8 leave of a mesh of n faces and v vertices: `unfolded` is what is left of 8, two faces on one rim have other far corners
+-- what the checks 2, 5, 6, 7 and 8 leave of a mesh of n faces and v vertices: `unfolded` is what is left of 8, two faces on one edge have other far corners
 pub record Good (v n : ℕ) (fs : List ℕ) : Type 0 where
   pub size : length fs ≡ 3 * n
   pub below : (s : ℕ) → s < 3 * n → corner fs s < v
@@ -81,7 +81,7 @@ back-fourth s = go (third s)
 pub step3 : (s a b c : ℕ) → onward s ≡ a → restart a ≡ b → backward b ≡ c → c ≡ backward (restart (onward s))
 step3 s a b c p q r = sym (ap (λ (y : ℕ). backward (restart y)) p ∙ ap backward q ∙ r)
 
--- s and t lie on one rim
+-- s and t lie on one edge
 pub data Shares (fs : List ℕ) (s t : ℕ) : Type 0 where
   itself : t ≡ s → Shares fs s t
   across : Twins fs s t → Shares fs s t
@@ -108,7 +108,7 @@ module _ (v n : ℕ) (fs : List ℕ) (g : Good v n fs) where
   pub link-is : (s t : ℕ) → s < 3 * n → Twins fs s t → getD (links fs) s none ≡ some t
   link-is s t h w = twin-is fs uniq s t (inside h) w
 
-  -- ---- the first side of an rim
+  -- ---- the first side of an edge
 
   firstOf-shares : (s : ℕ) → s < 3 * n → (o : Option ℕ) → getD (links fs) s none ≡ o → Shares fs s (firstOf s o)
   firstOf-shares s h none e = itself refl
@@ -163,7 +163,7 @@ module _ (v n : ℕ) (fs : List ℕ) (g : Good v n fs) where
       rank-inj (firstMet (links fs)) (meeting (links fs) s) (meeting (links fs) t) (meeting-first s hs) (meeting-first t ht) (omega arith) in
       shares-same s t (meeting (links fs) s) hs ht (meeting-shares s hs) (rw m (meeting-shares t ht))
 
-  -- ---- two sides of one rim, and their neighbours in their faces
+  -- ---- two sides of one edge, and their neighbours in their faces
 
   -- the three corners of a face differ
   pub ab : (s : ℕ) → s < 3 * n → corner fs s ≡ corner fs (onward s) → ⊥

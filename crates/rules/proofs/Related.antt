@@ -1,16 +1,16 @@
 -- The rules over two kinds of number on one mesh: if numbers related to a degree e give numbers related to e + 1 under each rule, then all that the levels
 -- and the limit make of them is related, a degree further at each step. Assumes nothing.
-use mathlib.Core.Path.{_≡_, refl, sym, ap, _∙_}
-use Prim.Native.Nat.{ℕ, zero, suc, _+_, _*_, _/_, min, max, zero-le, suc-le-suc}
+use mathlib.Core.Path.{_≡_, sym, ap, _∙_}
+use Prim.Native.Nat.{ℕ, zero, suc, _+_, _*_, _/_, zero-le, suc-le-suc}
 use native.Mathlib.Omega.{arith}
-use mathlib.Core.List.{List, [], _∷_, _++_, map}
+use mathlib.Core.List.{List, _∷_, map}
 use mathlib.Core.Option.{Option, none, some}
 use lib.ListN.{length, getD, length-map}
-use Rattle.lists.specs.Lists.{count, gather, lastOf}
+use Rattle.lists.specs.Lists.{count, lastOf}
 use Rattle.lists.proofs.Pairs.{Pairs, nil, cons, pairs-at, pairs-append, pairs-map, pairs-gather}
-use Rattle.rules.specs.Mesh.{onward, backward, corner, links, here, Stop, closed, ended, long, walk, passed, stopOf, nextCorner, prevCorner, Fan, inner, rim, endless, rimFan, fanOf, fan, ring, Mesh, cage, firsts, refined}
+use Rattle.rules.specs.Mesh.{onward, corner, links, here, Stop, closed, ended, long, walk, passed, stopOf, nextCorner, prevCorner, Fan, inner, rim, endless, rimFan, fanOf, fan, ring, Mesh, cage, firsts, refined}
 use Rattle.rules.specs.Position.{Stage, refining, limit, Rule, ringRule, rimRule, Numbers}
-use Rattle.rules.specs.Levels.{ends, coord, three, blended, moved, edgeAt, newPositions, limits, Level, first, finer, levels, last, positions}
+use Rattle.rules.specs.Levels.{ends, coord, three, blended, moved, edgeAt, newPositions, limits, first, finer, levels, last, positions}
 use Rattle.rules.proofs.Levels.{level, mesh-levels}
 use Rattle.rules.proofs.Weights.{AddsUp, ring-adds-up, rim-adds-up}
 

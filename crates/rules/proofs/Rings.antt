@@ -6,7 +6,7 @@ use native.Mathlib.Omega.{arith}
 use mathlib.Core.List.{List, [], _∷_, map}
 use mathlib.Core.Option.{Option, none, some}
 use lib.ListN.{length, getD}
-use Rattle.rules.specs.Mesh.{onward, backward, corner, links, through, restart, fourth, Fan, inner, rim, endless, fan, corners, valence, ring}
+use Rattle.rules.specs.Mesh.{onward, backward, corner, links, through, restart, fourth, Fan, inner, rim, endless, fan, valence, ring}
 use Rattle.lists.specs.Lists.{lastOf}
 use Rattle.lists.proofs.Places.{getD-map, map-as}
 use Rattle.rules.proofs.Sides.{back-on, on-twice, on-below}

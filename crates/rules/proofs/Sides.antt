@@ -1,6 +1,6 @@
--- Laws of the mesh. Assumes nothing.
+-- Sides of a face, and the side across each, found by search. Assumes nothing.
 use mathlib.Core.Path.{_≡_, sym, ap, _∙_}
-use Prim.Native.Nat.{ℕ, _+_, _-_, _*_, _%_, _<_}
+use Prim.Native.Nat.{ℕ, _*_, _<_}
 use native.Mathlib.Omega.{arith}
 use mathlib.Core.List.{List}
 use mathlib.Core.Option.{Option, none, some}
@@ -28,15 +28,6 @@ on-thrice s = ap onward (on-twice s) ∙ on-back s
 pub on-below : (s n : ℕ) → s < 3 * n → onward s < 3 * n
 on-below s n h = omega arith
 
-pub on-face : (f : ℕ) → onward (3 * f) ≡ 3 * f + 1
-on-face f = omega arith
-
-pub on-code : (s : ℕ) → s % 3 ≡ 2 → onward s ≡ s - 2
-on-code s h = omega arith
-
-pub on-code-2 : (s : ℕ) → ¬ (s % 3 ≡ 2) → onward s ≡ s + 1
-on-code-2 s h = omega arith
-
 -- ---- sides and links
 
 abbrev off : Side
@@ -61,7 +52,7 @@ module _ (fs : List ℕ) where
       getD-map (λ a. find (opposite a) (sides fs)) (sides fs) s off o (rw length-sides h)
       ∙ ap (λ (a : Side). find (opposite a) (sides fs)) (getD-sides s off h)
 
--- t runs the rim of s the other way
+-- t runs the edge of s the other way
 pub record Twins (fs : List ℕ) (s t : ℕ) : Type 0 where
   pub below : t < length fs
   pub from : corner fs t ≡ corner fs (onward s)

@@ -18,7 +18,7 @@ use Rattle.rules.proofs.Refine.{Good, midOf}
 use Rattle.rules.proofs.Faces.{link-link, link-twins}
 use Rattle.rules.proofs.Number.{first-of}
 
--- x, with the side y across it, lies on the rim of s and t: the same ends and the same far corners
+-- x, with the side `other` across it, lies on the edge of s and t: the same ends and the same far corners
 pub record SameEdge (fs : List ℕ) (s t x : ℕ) : Type 0 where
   pub other : ℕ
   pub link : getD (links fs) x none ≡ some other

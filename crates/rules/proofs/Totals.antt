@@ -60,7 +60,7 @@ module _ (v n : ℕ) (fs : List ℕ) (g : Good v n fs) where
       go true = refl
       go false = refl
 
-  -- of the two sides of an inner rim one is the first
+  -- of the two sides of an inner edge one is the first
   pairs-le : tally (λ s. not (isF s)) (count 0 (3 * n)) ≤ tally (λ s. isF s && isL s) (count 0 (3 * n))
   pairs-le = tally-into (λ s. not (isF s)) (λ s. isF s && isL s) (λ s. other s (linkOf fs s)) (3 * n)
       (λ s h q.

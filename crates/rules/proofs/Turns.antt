@@ -70,7 +70,7 @@ pub record Corners (n : ℕ) (fs : List ℕ) (s : ℕ) (cs : List ℕ) : Type 0 
 abbrev pub cornersAt : ℕ → List ℕ → ℕ → ℕ
 cornersAt n fs v = tally (λ x. eqb v (corner fs x)) (count 0 (3 * n))
 
--- one fan: next by `next_face` round to the first, or by `prev_face` from off to off
+-- one fan: next by `next_face` round to the first, or by `prev_face` from rim to rim
 pub record Round (n : ℕ) (fs : List ℕ) (s : ℕ) (cs : List ℕ) : Type 0 where
   pub corners : Corners n fs s cs
   pub filled : 0 < length cs
@@ -171,7 +171,7 @@ module _ (v n : ℕ) (fs : List ℕ) (g : Good v n fs) where
           apart = λ i j k l e. c .apart i j k l (one-corner v n fs g (getD cs i 0) (getD cs j 0) (c .below i (omega arith)) (sym e) (c .at i (omega arith) ∙ sym (c .at j l)));
         }))
 
-    -- request 8
+    -- a walk ends within the corners of its vertex
     pub walk-ends : stopOf (walk (nextCorner (links fs) s) (cornersAt n fs (corner fs s)) (here s)) ≢ long
     walk-ends = not-long (nextCorner (links fs) s) (cornersAt n fs (corner fs s)) (here s) (λ m. few _ (on-corners m))
 
@@ -237,7 +237,7 @@ module _ (v n : ℕ) (fs : List ℕ) (g : Good v n fs) where
         go-rim (lastOf 0 w) (l .0) (l .1) (step-rim s (after fs (lastOf 0 w)) z) (stopOf (walk (prevCorner (links fs) (lastOf 0 w)) n (here (lastOf 0 w)))) refl
     to-end long q = absurd (walk-ends-n v n fs g s h q)
 
-    -- every fan ends, round or from off to off
+    -- every fan ends, round or from rim to rim
     pub turned : Turned n fs s (fan (links fs) s)
     unfolding fan
     turned =
