@@ -1,7 +1,7 @@
 -- What a caller of the walks and rings has where the words hold a mesh that the checks have passed. Assumes nothing.
 use mathlib.Core.Path.{_≡_, refl, sym, ap, ap₂, _∙_}
 use mathlib.Core.Logic.{_≢_}
-use Prim.Native.Nat.{ℕ, zero, suc, _+_, _*_, _/_, _≤_, _<_}
+use Prim.Native.Nat.{ℕ, zero, suc, _+_, _*_, _≤_, _<_}
 use native.Mathlib.Omega.{arith}
 use mathlib.Core.Bool.{Bool}
 use mathlib.Core.List.{List, map}
@@ -20,7 +20,6 @@ use Rattle.rules.proofs.Levels.{Small}
 use Rattle.faces.specs.Words.{linkOf, coded, linksIn, faceCount, Holds}
 use Rattle.faces.specs.Rings.{Walkable, Ringable, turnOf, vert, held, ringOf}
 use Rattle.faces.specs.declared.VertNo.{VertNo}
-use Rattle.faces.specs.declared.Ring.{Ring}
 use Rattle.faces.specs.declared.Turn.the-variants as turn
 use Rattle.faces.proofs.Links.{getD-linksIn}
 use Rattle.faces.proofs.Trails.{endless-is}

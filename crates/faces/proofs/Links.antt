@@ -1,9 +1,9 @@
 -- Laws of link words and of steps. Assumes nothing.
-use mathlib.Core.Path.{_≡_, refl, sym, ap, _∙_}
+use mathlib.Core.Path.{_≡_, refl, ap, _∙_}
 use Prim.Native.Nat.{ℕ, zero, suc, _+_, _-_, _*_, _≤_, _<_}
 use native.Mathlib.Omega.{arith}
 use mathlib.Core.Bool.{Bool, true, false}
-use mathlib.Core.List.{List, map}
+use mathlib.Core.List.{List}
 use mathlib.Core.Option.{Option, none, some}
 use lib.Dec.{eqb}
 use lib.ListN.{length, getD, length-map}
@@ -16,7 +16,6 @@ use Rattle.rules.proofs.Sides.{on-below}
 use Rattle.rules.proofs.Refine.{back-below}
 use Rattle.faces.specs.Words.{linkOf, linksIn}
 use Rattle.faces.specs.Rings.{Walkable, stepOf}
-use Rattle.faces.specs.declared.Step.{Step}
 use Rattle.faces.specs.declared.Step.the-variants as step
 
 -- a word that is not 0

@@ -1,16 +1,14 @@
 -- A side number says what the Rust asks of a face: at corner s of face s / 3, whose corners differ, `next_face` and `prev_face` go where the walks go, and `next_vert`
 -- and `prev_vert` are what the rings take. Assumes nothing.
-use mathlib.Core.Path.{_≡_, refl, sym, ap, _∙_}
+use mathlib.Core.Path.{_≡_, sym, ap, _∙_}
 use mathlib.Core.Logic.{_≢_}
 use Prim.Native.Nat.{ℕ, _+_, _*_, _/_, _≤_, _<_}
 use native.Mathlib.Omega.{arith}
-use native.Mathlib.Nat.{add-assoc}
 use mathlib.Core.List.{List}
 use mathlib.Core.Option.{Option, none}
-use lib.Dec.{eqb}
 use lib.ListN.{length, getD}
 use borrow.Author.Tests.{eq-eqb, ne-eqb}
-use Rattle.lists.specs.Lists.{pick, part}
+use Rattle.lists.specs.Lists.{part}
 use Rattle.lists.proofs.Stores.{getD-part}
 use Rattle.rules.specs.Mesh.{onward, backward, corner}
 use Rattle.rules.proofs.Refine.{Third, third, k0, k1, k2}
@@ -19,11 +17,9 @@ use Rattle.faces.specs.Rings.{vert}
 use Rattle.faces.specs.Faces.{vnumOf, at, ofLink, faceLink, faceAt, nextFaceOf, prevFaceOf, nextVertOf, prevVertOf}
 use Rattle.faces.specs.declared.VertNo.{VertNo}
 use Rattle.faces.specs.declared.Face.{Face}
-use Rattle.faces.specs.declared.Across.{Across}
 use Rattle.faces.specs.declared.Across.the-variants as across
 use Rattle.faces.specs.declared.Spot.{Spot}
 use Rattle.faces.specs.declared.Spot.the-variants as spot
-use Rattle.faces.specs.declared.Vert.{Vert}
 use Rattle.faces.specs.declared.Vert.the-variants as vertex
 use Rattle.faces.proofs.Links.{getD-linksIn}
 

@@ -1,10 +1,10 @@
 -- A ring as its loop stores it. Assumes nothing.
 use mathlib.Core.Path.{_≡_, sym, ap, ap₂, _∙_}
-use Prim.Native.Nat.{ℕ, _+_, _*_, _≤_, _<_}
+use Prim.Native.Nat.{ℕ, _+_, _*_, _<_}
 use native.Mathlib.Omega.{arith}
 use native.Mathlib.Numerals.{add-one}
 use mathlib.Core.Bool.{Bool}
-use mathlib.Core.List.{List, _∷_, map}
+use mathlib.Core.List.{List, map}
 use lib.ListN.{length, getD, set, take, replicate, length-map}
 use lib.Seq.{sets, take-all}
 use Rattle.lists.specs.Lists.{part}

@@ -1,7 +1,7 @@
 -- The corners that a walk over link words passes: where they lie, what follows each, and what they say of the fan. Assumes nothing.
 use mathlib.Core.Path.{_≡_, refl, sym, ap, _∙_, subst}
 use mathlib.Core.Logic.{_≢_}
-use Prim.Native.Nat.{ℕ, zero, suc, _+_, _-_, _*_, _/_, _≤_, _<_}
+use Prim.Native.Nat.{ℕ, zero, suc, _-_, _*_, _/_, _≤_, _<_}
 use native.Mathlib.Nat.{not-suc-le-zero, le-of-suc-le-suc}
 use native.Mathlib.Decide.{decLt}
 use native.Mathlib.Omega.{arith}
@@ -17,9 +17,7 @@ use Rattle.faces.specs.Words.{linksIn}
 use Rattle.faces.specs.Rings.{Walkable, Ends, stepOf, tripBy, tripOf, turnOf}
 use Rattle.faces.specs.declared.Step.{Step}
 use Rattle.faces.specs.declared.Step.the-variants as step
-use Rattle.faces.specs.declared.Trip.{Trip}
 use Rattle.faces.specs.declared.Trip.the-variants as trip
-use Rattle.faces.specs.declared.Turn.{Turn}
 use Rattle.faces.specs.declared.Turn.the-variants as turn
 use Rattle.faces.proofs.Links.{next-below, prev-below, length-linksIn}
 use Rattle.faces.proofs.Trips.{first-passed}

@@ -7,7 +7,6 @@ use lib.Dec.{eqb}
 use Rattle.lists.specs.Lists.{pick}
 use Rattle.faces.specs.Words.{linkOf}
 use Rattle.faces.specs.declared.VertNo.{VertNo}
-use Rattle.faces.specs.declared.FaceNo.{FaceNo}
 use Rattle.faces.specs.declared.Face.{Face}
 use Rattle.faces.specs.declared.Link.{Link}
 use Rattle.faces.specs.declared.Link.the-variants as link

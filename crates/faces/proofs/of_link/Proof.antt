@@ -1,6 +1,4 @@
 use borrow.Author.Needs.{needs}
-use mathlib.Core.Path.{_≡_, ap, sym}
-use Rattle.faces.specs.Faces.{ofLink}
 use Rattle.faces.proofs.of_link.Statement.{statement}
 use Rattle.faces.proofs.of_link.Tie as tie
 

@@ -14,9 +14,8 @@ use Rattle.lists.proofs.Stores.{getD-part}
 use Rattle.rules.specs.Mesh.{onward, backward, corner, here, walk, passed, prevCorner}
 use Rattle.rules.proofs.Sides.{on-below}
 use Rattle.faces.specs.Words.{linksIn}
-use Rattle.faces.specs.Rings.{stepOf, vert, rimmed, held}
+use Rattle.faces.specs.Rings.{stepOf, vert, rimmed}
 use Rattle.faces.specs.declared.VertNo.{VertNo}
-use Rattle.faces.specs.declared.Ring.{Ring}
 use Rattle.faces.proofs.Links.{prev-at, prev-below}
 use Rattle.faces.proofs.Trails.{some-passed, filled, then-here, then-home, then-off}
 use Rattle.faces.proofs.Trips.{first-passed}
