@@ -18,7 +18,7 @@ use Rattle.rules.proofs.Turns.{fan-ends}
 use Rattle.rules.proofs.Sound.{Sound}
 use Rattle.rules.proofs.Levels.{Small}
 use Rattle.faces.specs.Words.{linkOf, coded, linksIn, faceCount, Holds}
-use Rattle.faces.specs.Rings.{Walkable, Ringable, turnOf, vert, held, ringOf}
+use Rattle.faces.specs.Rings.{Walkable, Ringable, turnOf, valenceOf, vert, held, ringOf}
 use Rattle.faces.specs.declared.VertNo.{VertNo}
 use Rattle.faces.specs.declared.Turn.the-variants as turn
 use Rattle.faces.proofs.Links.{getD-linksIn}
@@ -109,7 +109,12 @@ module _ (w : List ℕ) (at n : ℕ) (m : Mesh) (h : Holds w at m) (p : Sound n 
       ringOf (m .faces) (fan (links (m .faces)) (getD (m .starts) v 0))
   start-ring = ring-of-held w at n m h (p .good) (getD w (at + 6 * n + v) 0) ∙ ap (λ (s : ℕ). ringOf (m .faces) (fan (links (m .faces)) s)) start-is
 
--- ---- a ring that is held by value
+-- ---- a turn has the valence of its fan, and so has a ring that is held by value
+
+pub valence-turn : (f : Fan) → valenceOf (turnOf f) ≡ valence f
+valence-turn (inner cs) = refl
+valence-turn (rim cs) = refl
+valence-turn endless = refl
 
 pub length-ring : (fs : List ℕ) (f : Fan) → length (ring fs f) ≡ valence f
 length-ring fs (inner cs) = length-map cs _
