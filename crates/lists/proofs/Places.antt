@@ -274,3 +274,7 @@ pub getD-any : {A : Type 0} (l : List A) (i : ℕ) (d e : A) → i < length l �
 getD-any [] i d e h = absurd (not-suc-le-zero h)
 getD-any (x ∷ l) zero d e h = refl
 getD-any (x ∷ l) (suc i) d e h = getD-any l i d e (le-of-suc-le-suc h)
+
+pub map-map : {A B C : Type 0} (f : A → B) (g : B → C) (l : List A) → map g (map f l) ≡ map (λ x. g (f x)) l
+map-map f g [] = refl
+map-map {C} f g (x ∷ l) = ap (λ (r : List C). g (f x) ∷ r) (map-map f g l)

@@ -1,15 +1,15 @@
 -- Points gathered from lent coordinates, and what the f32 rules give of them. Assumes nothing.
-use Prim.Native.Nat.{ℕ, zero, suc, _+_, _-_, _*_, _≤_, _<_}
-use mathlib.Core.Path.{_≡_, refl, sym, ap, ap₂, _∙_}
+use Prim.Native.Nat.{ℕ, _+_, _-_, _*_, _≤_, _<_}
+use mathlib.Core.Path.{_≡_, sym, ap, ap₂, _∙_}
 use mathlib.Core.Bool.{Bool, true, false}
 use mathlib.Core.List.{List, [], _∷_, map}
 use native.Mathlib.Omega.{arith}
 use native.Mathlib.Nat.{zero-add, add-zero}
 use lib.ListN.{length, getD, set, take, replicate, length-map}
-use lib.Seq.{sets, getD-take, length-take-le, take-all}
-use lib.Ieee.{Float, nan}
+use lib.Seq.{sets, getD-take, take-all}
+use lib.Ieee.{Float}
 use Rattle.lists.specs.Lists.{pick}
-use Rattle.lists.proofs.Places.{getD-map, getD-any}
+use Rattle.lists.proofs.Places.{getD-map, getD-any, map-map}
 use Rattle.lists.proofs.Stores.{part-of, getD-within, copy-more}
 use Rattle.vectors.specs.declared.Vec3.{Vec3}
 use Rattle.vectors.specs.Vectors.{origin}
@@ -17,7 +17,7 @@ use Rattle.rules.specs.Position.{Stage, weight, weighed, ringRule, rimRule, sin
 use Rattle.rules.specs.Levels.{ends, coord, three}
 use Rattle.faces.specs.declared.VertNo.{VertNo}
 use Rattle.faces.specs.declared.Ring.{Ring}
-use Rattle.weights.specs.Weights.{ruleOf, carried, alike, nowhere, firstLast, weightedPoint}
+use Rattle.weights.specs.Weights.{ruleOf, carried, alike, nowhere, weightedPoint}
 use Rattle.weights.specs.Lent.{numbers, byRing, listed, pointAt, sixteen}
 use Rattle.weights.proofs.Means.{none, number-at, length-first, ends-are}
 
@@ -37,20 +37,8 @@ module _ {A : Type 0} (g : ℕ → A) (vs : List VertNo) (n : ℕ) (h : n ≤ le
       ∙ ap g (number-at (take n vs) i ∙ ap (λ (v : VertNo). v .0) (getD-take n vs i none k))
 
 -- ---- coordinate by coordinate
-xs-of : (l : List Float) (vs : List ℕ) → map (λ q. q .x) (map (pointAt l) vs) ≡ map (coord single l 0) vs
-xs-of l [] = refl
-xs-of l (v ∷ vs) = ap (λ (t : List Float). coord single l 0 v ∷ t) (xs-of l vs)
-
-ys-of : (l : List Float) (vs : List ℕ) → map (λ q. q .y) (map (pointAt l) vs) ≡ map (coord single l 1) vs
-ys-of l [] = refl
-ys-of l (v ∷ vs) = ap (λ (t : List Float). coord single l 1 v ∷ t) (ys-of l vs)
-
-zs-of : (l : List Float) (vs : List ℕ) → map (λ q. q .z) (map (pointAt l) vs) ≡ map (coord single l 2) vs
-zs-of l [] = refl
-zs-of l (v ∷ vs) = ap (λ (t : List Float). coord single l 2 v ∷ t) (zs-of l vs)
-
 alike-is : (f : Float → List Float → Float) (l : List Float) (v : ℕ) (vs : List ℕ) → listed (alike f (pointAt l v) (map (pointAt l) vs)) ≡ three single (λ c. f (coord single l c v) (map (coord single l c) vs))
-alike-is f l v vs = rw (xs-of l vs, ys-of l vs, zs-of l vs)
+alike-is f l v vs = rw (map-map (pointAt l) (λ q. q .x) vs, map-map (pointAt l) (λ q. q .y) vs, map-map (pointAt l) (λ q. q .z) vs)
 
 module _ (s : Stage) (l : List Float) (v : ℕ) (vs : List VertNo) (n : ℕ) (a : 0 < n) (few : n ≤ 16) (h : n ≤ length vs) where
   ring-all : take n (sixteen (map (pointAt l) (numbers (take n vs)))) ≡ map (pointAt l) (numbers (take n vs))

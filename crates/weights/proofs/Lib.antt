@@ -2,3 +2,4 @@ pub mod Floats
 pub mod Means
 pub mod Joins
 pub mod Gathered
+pub mod Cases

@@ -18,7 +18,7 @@ use Rattle.whole.proofs.Reading.{is-sub}
 use Rattle.whole.proofs.Sums.{Raised, raised-add, raised-times, raised-as, rounded-is}
 use Rattle.rules.specs.Position.{Stage, refining, limit, ringRule, rimRule, outOf, sum, whole}
 use Rattle.rules.specs.Levels.{ends, coord, three}
-use Rattle.rules.proofs.Weights.{AddsUp, ring-adds-up, rim-adds-up}
+use Rattle.rules.proofs.Weights.{ring-adds-up, rim-adds-up}
 use Rattle.faces.specs.declared.VertNo.{VertNo}
 use Rattle.faces.specs.declared.Ring.{Ring}
 use Rattle.weights.specs.Weights.{ruleOf}
@@ -34,11 +34,6 @@ raised-of {s} {w} e h = record { same = rw (sym e) (is-sub s (w * reach)); most 
 sum-more : (l : List ℤ) (x : ℤ) → sum (l ++ (x ∷ [])) ≡ sum l +ℤ x
 sum-more [] x = +ℤ-idr x ∙ sym (+ℤ-idl x)
 sum-more (y ∷ l) x = ap (λ z. y +ℤ z) (sum-more l x) ∙ sym (+ℤ-assoc y (sum l) x)
-
--- what f gives of the vertices of a ring
-pub map-numbers : (f : ℕ → ℤ) (vs : List VertNo) → map f (numbers vs) ≡ map (λ v. f (v .0)) vs
-map-numbers f [] = refl
-map-numbers f (v ∷ vs) = ap (λ t. f (v .0) ∷ t) (map-numbers f vs)
 
 -- what stands past a ring's end
 abbrev pub none : VertNo

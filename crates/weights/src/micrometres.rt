@@ -8,9 +8,9 @@ use whole::put;
 use whole::raised_at;
 use whole::rounded;
 ghost use mathlib.Core.Path.{_≡_};
-ghost use Prim.Native.Nat.{ℕ, _+_, _*_, _<_, _≤_};
+ghost use Prim.Native.Nat.{_+_, _*_, _<_, _≤_};
 ghost use mathlib.Core.List.{map};
-ghost use lib.ListN.{length, getD, take};
+ghost use lib.ListN.{length, take};
 ghost use lib.Seq.{sets};
 ghost use Rattle.rules.specs.Position.{refining, limit, sum, whole};
 ghost use Rattle.rules.specs.Levels.{ends, coord, three};
@@ -25,14 +25,15 @@ pub struct Share {
 }
 
 impl Share {
+    // b = each / all on each of k, and what is left on the vertex itself.
     fn of(k: u64, each: u64, all: u64) -> Share
         requires { ⌜ (k ≤ 16) × ((each ≤ 3) × (k * each ≤ all)) ⌝ }
         ensures { λ r. ⌜ r ≡ sharing k each all ⌝ }
     {
         Share {
             own: all - k * each,
-            each: each,
-            all: all,
+            each,
+            all,
         }
     }
 

@@ -2,10 +2,10 @@ use mathlib.Core.Path.{_≡_, refl, sym, ap, _∙_}
 use Prim.Native.Nat.{ℕ, _≤_, _-_}
 use native.Mathlib.Omega.{arith}
 use native.Mathlib.Numerals.{add-one}
-use lib.ListN.{length, take, getD}
+use lib.ListN.{take, getD}
 use borrow.Author.Needs.{needs}
 use Rattle.vectors.specs.declared.Vec3.{Vec3}
-use Rattle.rules.specs.Position.{onto, ownWeight}
+use Rattle.rules.specs.Position.{onto}
 use Rattle.weights.specs.Weights.{alike, nowhere}
 use Rattle.weights.proofs.Floats.{adds, weighs, own-is, next, ring-is}
 use Rattle.weights.proofs.weight_one_ring.Statement.{statement}

@@ -5,10 +5,12 @@ use native.Mathlib.Omega.{arith}
 use denote.Ref.{now}
 use lib.ListN.{take}
 use borrow.Author.Needs.{needs}
+use Rattle.lists.proofs.Places.{map-map}
 use Rattle.whole.proofs.Sums.{Raised, raised-zero, lower-is}
 use Rattle.rules.specs.Position.{sum, whole}
 use Rattle.rules.specs.Levels.{coord}
-use Rattle.weights.proofs.Means.{raised-of, raised-more, none, map-numbers}
+use Rattle.faces.specs.declared.VertNo.{VertNo}
+use Rattle.weights.proofs.Means.{raised-of, raised-more, none}
 use Rattle.weights.proofs.micrometres.ring_sum.Statement.{statement}
 use Rattle.weights.proofs.micrometres.ring_sum.Tie as tie
 
@@ -51,7 +53,7 @@ returns c =
     let a = l .before .args in
     let e : l .loop .i ≡ a .n = omega arith in
     let h = l .loop .inv .1 in
-    rw (map-numbers (coord whole (now (a .xs)) (a .c)) (take (a .n) (a .t2)), ← e) (lower-is h, h .most)
+    rw (map-map (λ (v : VertNo). v .0) (coord whole (now (a .xs)) (a .c)) (take (a .n) (a .t2)), ← e) (lower-is h, h .most)
 
 pub ring-sum-spec : {M : Type 1} → statement M
 ring-sum-spec =

@@ -1,7 +1,7 @@
 use denote.Ref.{now}
 use borrow.Author.Needs.{needs}
-use Rattle.whole.specs.Whole.{lower}
 use Rattle.lists.proofs.Stores.{sets-three}
+use Rattle.whole.specs.Whole.{lower}
 use Rattle.weights.proofs.micrometres.Whole3.put.Statement.{statement}
 use Rattle.weights.proofs.micrometres.Whole3.put.Tie as tie
 
