@@ -1,0 +1,104 @@
+-- The work buffers from level to level: what one level asks of them, and what it leaves in them. Assumes nothing.
+use mathlib.Core.Path.{_≡_, refl, sym, ap, ap₂, _∙_, subst}
+use mathlib.Core.Logic.{_⊎_, ⊎-elim, inl, inr}
+use Prim.Native.Nat.{ℕ, zero, suc, _+_, _-_, _*_, _/_, _%_, _≤_, _<_}
+use native.Mathlib.Omega.{arith}
+use mathlib.Core.Bool.{Bool, true, false}
+use mathlib.Core.List.{List}
+use mathlib.Core.Option.{Option}
+use lib.Dec.{eqb}
+use lib.ListN.{length, drop}
+use lib.Seq.{sets, length-sets}
+use borrow.Author.Tests.{eq-eqb, ne-eqb, eqb-true, eqb-false}
+use Rattle.lists.specs.Lists.{pick, part}
+use Rattle.lists.proofs.Stores.{part-of, drop-after}
+use Rattle.rules.specs.Mesh.{links, Mesh, firsts, refined}
+use Rattle.rules.specs.Position.{Numbers}
+use Rattle.rules.specs.Levels.{Level, first, levels, finer, newPositions}
+use Rattle.rules.proofs.Sound.{Sound}
+use Rattle.rules.proofs.Levels.{facesAt}
+use Rattle.rules.proofs.Growth.{levels-more}
+use Rattle.rules.proofs.Cage.{Accepted}
+use Rattle.faces.specs.Words.{linksIn, faceCount, Holds}
+use Rattle.levels.specs.Level.{meshIn, Ready, Grown}
+use Rattle.loopsubdiv.specs.Held.{startOf, Kept, Held}
+use Rattle.loopsubdiv.proofs.Sizes.{facesOf, levelAt, vertsOf, Fits, fits, next-verts}
+
+-- the two parts take turns
+pub data Sides (i h : ℕ) : Type 0 where
+  left : startOf i h ≡ 0 → startOf (i + 1) h ≡ h → Sides i h
+  right : startOf i h ≡ h → startOf (i + 1) h ≡ 0 → Sides i h
+
+pub sides : (i h : ℕ) → Sides i h
+sides i h = go (eqb (i % 2) 0) refl
+  where
+    go : (b : Bool) → eqb (i % 2) 0 ≡ b → Sides i h
+    go true e =
+        let p : (i + 1) % 2 ≡ 0 → ⊥ = λ q. (let z = eqb-true (i % 2) 0 e in omega arith) in
+        left (rw e) (rw (ne-eqb ((i + 1) % 2) 0 p))
+    go false e =
+        let p : (i + 1) % 2 ≡ 0 = (let z = eqb-false (i % 2) 0 e in omega arith) in
+        right (rw e) (rw (eq-eqb ((i + 1) % 2) 0 p))
+
+-- a mesh that is held is the mesh that is read
+pub mesh-read : (w : List ℕ) (at n : ℕ) (m : Mesh) → Holds w at m → faceCount m ≡ n → meshIn w at n (m .verts) ≡ m
+mesh-read w at n m h e =
+    let f : part at (3 * n) w ≡ m .faces = rw e at (h .faces) in
+    let s : part (at + 6 * n) (m .verts) w ≡ m .starts = rw e at (h .starts) in
+    ap₂ {C = Mesh} (λ a b. record { verts = m .verts; faces = a; starts = b }) f s
+
+module _ (𝓝 : Numbers) (fs : List ℕ) (xs : List (𝓝 .N)) (l : ℕ) (ok : Accepted 𝓝 l fs xs) (half : ℕ) (parts : half ≡ 8 * facesOf fs l + 4 * vertsOf 𝓝 fs xs l) where
+  module _ (i : ℕ) (h : i < l) (w : List ℕ) (room : 2 * half ≤ length w) (held : Holds w (startOf i half) (levelAt 𝓝 fs xs i .mesh)) where
+    here : Fits 𝓝 fs xs l i
+    here = fits 𝓝 fs xs l ok i (omega arith)
+
+    then : Fits 𝓝 fs xs l (i + 1)
+    then = fits 𝓝 fs xs l ok (i + 1) (omega arith)
+
+    read : meshIn w (startOf i half) (facesOf fs i) (vertsOf 𝓝 fs xs i) ≡ levelAt 𝓝 fs xs i .mesh
+    read = mesh-read w (startOf i half) (facesOf fs i) (levelAt 𝓝 fs xs i .mesh) held (here .faces)
+
+    more : vertsOf 𝓝 fs xs i + length (firsts (links (levelAt 𝓝 fs xs i .mesh .faces))) ≤ vertsOf 𝓝 fs xs l
+    more = omega (arith, then .verts, next-verts 𝓝 fs xs i)
+
+    faces-read : part (startOf i half) (3 * facesOf fs i) w ≡ levelAt 𝓝 fs xs i .mesh .faces
+    faces-read = ap (λ (m : Mesh). m .faces) read
+
+    more-read : vertsOf 𝓝 fs xs i + length (firsts (links (part (startOf i half) (3 * facesOf fs i) w))) ≤ vertsOf 𝓝 fs xs l
+    more-read = rw faces-read more
+
+    pub ready : Ready w (startOf i half) (startOf (i + 1) half) (facesOf fs i) (vertsOf 𝓝 fs xs i)
+    ready = go (sides i half)
+      where
+        linked : linksIn w (startOf i half + 3 * facesOf fs i) (3 * facesOf fs i) ≡ links (part (startOf i half) (3 * facesOf fs i) w)
+        linked = rw faces-read (rw (here .faces) at (held .links))
+
+        go : Sides i half → Ready w (startOf i half) (startOf (i + 1) half) (facesOf fs i) (vertsOf 𝓝 fs xs i)
+        go (left p q) = record {
+          sound = rw read (here .sound);
+          linked = linked;
+          old = omega (arith, here .verts, here .four h, p);
+          new = omega (arith, here .four h, more-read, q);
+          apart = inl (omega (arith, here .verts, here .four h, p, q));
+          small = omega (arith, here .verts, here .four h, here .most);
+        }
+        go (right p q) = record {
+          sound = rw read (here .sound);
+          linked = linked;
+          old = omega (arith, here .verts, here .four h, p);
+          new = omega (arith, here .four h, more-read, q);
+          apart = inr (omega (arith, here .verts, here .four h, more-read, p, q));
+          small = omega (arith, here .verts, here .four h, here .most);
+        }
+
+    module _ (w′ : List ℕ) (g : Grown w w′ (startOf i half) (startOf (i + 1) half) (facesOf fs i) (vertsOf 𝓝 fs xs i)) where
+      pub words-held : Holds w′ (startOf (i + 1) half) (levelAt 𝓝 fs xs (i + 1) .mesh)
+      unfolding finer
+      words-held = rw (levels-more 𝓝 i (first 𝓝 fs xs)) (subst (λ (m : Mesh). Holds w′ (startOf (i + 1) half) (refined m (links (m .faces)))) read (g .holds))
+
+      pub words-kept : Kept (2 * half) w′ w
+      words-kept = record { long = g .long; rest = go (sides i half) }
+        where
+          go : Sides i half → drop (2 * half) w′ ≡ drop (2 * half) w
+          go (left p q) = g .rest (2 * half) (omega (arith, here .verts, here .four h, p)) (omega (arith, here .four h, more-read, q))
+          go (right p q) = g .rest (2 * half) (omega (arith, here .verts, here .four h, p)) (omega (arith, here .four h, more-read, q))
