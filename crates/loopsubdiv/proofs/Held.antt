@@ -18,6 +18,7 @@ use Rattle.rules.specs.Levels.{Level, first, levels, finer, newPositions}
 use Rattle.rules.proofs.Sound.{Sound}
 use Rattle.rules.proofs.Levels.{facesAt}
 use Rattle.rules.proofs.Growth.{levels-more}
+use Rattle.rules.proofs.Spokes.{length-new}
 use Rattle.rules.proofs.Cage.{Accepted}
 use Rattle.faces.specs.Words.{linksIn, faceCount, Holds}
 use Rattle.levels.specs.Level.{meshIn, Ready, Grown}
@@ -102,3 +103,36 @@ module _ (𝓝 : Numbers) (fs : List ℕ) (xs : List (𝓝 .N)) (l : ℕ) (ok : 
           go : Sides i half → drop (2 * half) w′ ≡ drop (2 * half) w
           go (left p q) = g .rest (2 * half) (omega (arith, here .verts, here .four h, p)) (omega (arith, here .four h, more-read, q))
           go (right p q) = g .rest (2 * half) (omega (arith, here .verts, here .four h, p)) (omega (arith, here .four h, more-read, q))
+
+  -- ---- the coordinates
+
+  module _ (i : ℕ) (h : i < l) (third : ℕ) (parts₃ : third ≡ 3 * vertsOf 𝓝 fs xs l) (x x′ : List (𝓝 .N)) (room : 2 * third ≤ length x)
+      (new : x′ ≡ sets x (startOf (i + 1) third) (levelAt 𝓝 fs xs (i + 1) .points)) where
+    count-new : length (levelAt 𝓝 fs xs (i + 1) .points) ≡ 3 * vertsOf 𝓝 fs xs (i + 1)
+    unfolding finer
+    count-new =
+        let m = levelAt 𝓝 fs xs i .mesh in
+        let e = ap (λ (a : Level 𝓝). length (a .points)) (levels-more 𝓝 i (first 𝓝 fs xs)) in
+        omega (arith, e, length-new 𝓝 m (links (m .faces)) (levelAt 𝓝 fs xs i .points), next-verts 𝓝 fs xs i)
+
+    inside : startOf (i + 1) third + 3 * vertsOf 𝓝 fs xs (i + 1) ≤ 2 * third
+    inside = go (sides i third)
+      where
+        go : Sides i third → startOf (i + 1) third + 3 * vertsOf 𝓝 fs xs (i + 1) ≤ 2 * third
+        go (left p q) = omega (arith, fits 𝓝 fs xs l ok (i + 1) (omega arith) .verts, q)
+        go (right p q) = omega (arith, fits 𝓝 fs xs l ok (i + 1) (omega arith) .verts, q)
+
+    pub coords-held : part (startOf (i + 1) third) (3 * vertsOf 𝓝 fs xs (i + 1)) x′ ≡ levelAt 𝓝 fs xs (i + 1) .points
+    coords-held = rw new (part-of (levelAt 𝓝 fs xs (i + 1) .points) x (startOf (i + 1) third) (3 * vertsOf 𝓝 fs xs (i + 1)) count-new (omega (arith, inside)))
+
+    pub coords-kept : Kept (2 * third) x′ x
+    coords-kept = record {
+      long = rw new (length-sets x (startOf (i + 1) third) (levelAt 𝓝 fs xs (i + 1) .points));
+      rest = rw new (drop-after (levelAt 𝓝 fs xs (i + 1) .points) x (startOf (i + 1) third) (2 * third) (omega (arith, inside, count-new)));
+    }
+
+pub kept-all : {A : Type 0} (n : ℕ) (x : List A) → Kept n x x
+kept-all n x = record { long = refl; rest = refl }
+
+pub kept-then : {A : Type 0} {n : ℕ} {x y z : List A} → Kept n x y → Kept n y z → Kept n x z
+kept-then a b = record { long = a .long ∙ b .long; rest = a .rest ∙ b .rest }
