@@ -22,6 +22,7 @@ use Rattle.rules.proofs.Spokes.{length-new}
 use Rattle.rules.proofs.Cage.{Accepted}
 use Rattle.faces.specs.Words.{linksIn, faceCount, Holds}
 use Rattle.levels.specs.Level.{meshIn, Ready, Grown}
+use Rattle.levels.specs.Moves.{Movable, Placed, edgesIn}
 use Rattle.loopsubdiv.specs.Held.{startOf, Kept, Held}
 use Rattle.loopsubdiv.proofs.Sizes.{facesOf, levelAt, vertsOf, Fits, fits, next-verts}
 
@@ -67,6 +68,31 @@ module _ (𝓝 : Numbers) (fs : List ℕ) (xs : List (𝓝 .N)) (l : ℕ) (ok : 
 
     more-read : vertsOf 𝓝 fs xs i + length (firsts (links (part (startOf i half) (3 * facesOf fs i) w))) ≤ vertsOf 𝓝 fs xs l
     more-read = rw faces-read more
+
+    -- what the moves ask of the words
+    pub movable : Movable w (startOf i half) (facesOf fs i) (vertsOf 𝓝 fs xs i)
+    movable = record {
+      holds = rw read held;
+      sound = rw read (here .sound);
+      few = rw read (here .small);
+      small = omega (arith, here .verts, here .most);
+    }
+
+    pub placed : (third long : ℕ) → third ≡ 3 * vertsOf 𝓝 fs xs l → 2 * third ≤ long
+        → Placed long (startOf i third) (startOf (i + 1) third) (vertsOf 𝓝 fs xs i) (edgesIn w (startOf i half) (facesOf fs i))
+    placed third long e r = go (sides i third)
+      where
+        go : Sides i third → Placed long (startOf i third) (startOf (i + 1) third) (vertsOf 𝓝 fs xs i) (edgesIn w (startOf i half) (facesOf fs i))
+        go (left p q) = record {
+          old = omega (arith, here .verts, p);
+          new = omega (arith, more-read, q);
+          apart = inl (omega (arith, here .verts, p, q));
+        }
+        go (right p q) = record {
+          old = omega (arith, here .verts, p);
+          new = omega (arith, more-read, q);
+          apart = inr (omega (arith, more-read, p, q));
+        }
 
     pub ready : Ready w (startOf i half) (startOf (i + 1) half) (facesOf fs i) (vertsOf 𝓝 fs xs i)
     ready = go (sides i half)
@@ -130,6 +156,37 @@ module _ (𝓝 : Numbers) (fs : List ℕ) (xs : List (𝓝 .N)) (l : ℕ) (ok : 
       long = rw new (length-sets x (startOf (i + 1) third) (levelAt 𝓝 fs xs (i + 1) .points));
       rest = rw new (drop-after (levelAt 𝓝 fs xs (i + 1) .points) x (startOf (i + 1) third) (2 * third) (omega (arith, inside, count-new)));
     }
+
+  -- ---- one level, of both buffers
+
+  module _ (third : ℕ) (parts₃ : third ≡ 3 * vertsOf 𝓝 fs xs l) (i : ℕ) (h : i < l) (w : List ℕ) (x : List (𝓝 .N)) (room : 2 * half ≤ length w) (room₃ : 2 * third ≤ length x)
+      (held : Held 𝓝 (levelAt 𝓝 fs xs i) i half third w x) where
+    points-new :
+        newPositions 𝓝 (meshIn w (startOf i half) (facesOf fs i) (vertsOf 𝓝 fs xs i)) (links (part (startOf i half) (3 * facesOf fs i) w)) (part (startOf i third) (3 * vertsOf 𝓝 fs xs i) x)
+        ≡ levelAt 𝓝 fs xs (i + 1) .points
+    unfolding finer
+    points-new =
+        rw (read i h w room (held .words), faces-read i h w room (held .words), held .coords)
+        (sym (ap (λ (a : Level 𝓝). a .points) (levels-more 𝓝 i (first 𝓝 fs xs))))
+
+    module _ (w′ : List ℕ) (x′ : List (𝓝 .N))
+        (new : x′ ≡ sets x (startOf (i + 1) third) (newPositions 𝓝 (meshIn w (startOf i half) (facesOf fs i) (vertsOf 𝓝 fs xs i)) (links (part (startOf i half) (3 * facesOf fs i) w)) (part (startOf i third) (3 * vertsOf 𝓝 fs xs i) x)))
+        (g : Grown w w′ (startOf i half) (startOf (i + 1) half) (facesOf fs i) (vertsOf 𝓝 fs xs i)) where
+      placed-new : x′ ≡ sets x (startOf (i + 1) third) (levelAt 𝓝 fs xs (i + 1) .points)
+      placed-new = new ∙ ap (λ (ps : List (𝓝 .N)). sets x (startOf (i + 1) third) ps) points-new
+
+      pub held-more : Held 𝓝 (levelAt 𝓝 fs xs (i + 1)) (i + 1) half third w′ x′
+      held-more = record {
+        words = words-held i h w room (held .words) w′ g;
+        coords = coords-held i h third parts₃ x x′ room₃ placed-new;
+      }
+
+      pub more-kept : Kept (2 * half) w′ w × Kept (2 * third) x′ x
+      more-kept = (words-kept i h w room (held .words) w′ g, coords-kept i h third parts₃ x x′ room₃ placed-new)
+
+    -- how many vertices come
+    pub verts-more : vertsOf 𝓝 fs xs (i + 1) ≡ vertsOf 𝓝 fs xs i + length (firsts (links (part (startOf i half) (3 * facesOf fs i) w)))
+    verts-more = rw (faces-read i h w room (held .words)) (next-verts 𝓝 fs xs i)
 
 pub kept-all : {A : Type 0} (n : ℕ) (x : List A) → Kept n x x
 kept-all n x = record { long = refl; rest = refl }
