@@ -1,13 +1,14 @@
 -- What the lent work buffers hold while a call runs. Level i stands in the first part of each buffer where i is even and in the second where it is odd. Assumes nothing.
 use Prim.Native.Nat.{ℕ, _+_, _*_, _%_}
 use mathlib.Core.Path.{_≡_}
-use mathlib.Core.List.{List}
+use mathlib.Core.List.{List, _++_, map}
 use lib.Dec.{eqb}
 use lib.ListN.{length, drop}
 use Rattle.lists.specs.Lists.{pick, part}
 use Rattle.rules.specs.Position.{Numbers}
 use Rattle.rules.specs.Levels.{Level}
-use Rattle.faces.specs.Words.{Holds}
+use Rattle.rules.specs.Mesh.{links, cage}
+use Rattle.faces.specs.Words.{coded, Holds}
 
 -- where level i starts, in parts of n entries
 abbrev pub startOf : ℕ → ℕ → ℕ
@@ -22,3 +23,7 @@ pub record Kept {A : Type 0} (n : ℕ) (now before : List A) : Type 0 where
 pub record Held (𝓝 : Numbers) (a : Level 𝓝) (i half third : ℕ) (ws : List ℕ) (cs : List (𝓝 .N)) : Type 0 where
   pub words : Holds ws (startOf i half) (a .mesh)
   pub coords : part (startOf i third) (3 * a .mesh .verts) cs ≡ a .points
+
+-- the words of a control cage: its faces, their links, its start corners
+abbrev pub loaded : ℕ → List ℕ → List ℕ
+loaded v fs = fs ++ (map coded (links fs) ++ cage v fs .starts)

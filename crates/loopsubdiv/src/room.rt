@@ -10,6 +10,8 @@ ghost use Rattle.lists.specs.Lists.{pick, cleared};
 ghost use Rattle.rules.specs.Position.{f32 as single};
 ghost use Rattle.rules.specs.Refusals.{check, shortOf};
 ghost use Rattle.rules.specs.Answers.{unless, wholeRooms, singleRooms};
+ghost use Rattle.cage.specs.Chains.{Faces, Below, Once};
+ghost use Rattle.loopsubdiv.specs.Held.{startOf, loaded};
 use rules::Counts;
 use rules::Outcome;
 use rules::Refusal;
@@ -142,4 +144,23 @@ pub fn single_front<'a>(a: &'a [f32], b: &'a [f32], levels: u32, n: usize) -> &'
     ensures { λ r. ⌜ now r ≡ take n (pick (eqb (levels % 2) 0) (now (a .entry)) (now (b .entry))) ⌝ }
 {
     if levels % 2 == 0 { &a[..n] } else { &b[..n] }
+}
+
+// Level 0: the control cage at the front of the words.
+pub fn load_words(indices: &[u32], nv: usize, words: &mut [u32])
+    requires cage { ⌜ Faces (now indices) × Below 4096 (now indices) × Once (now indices) × (nv ≤ 4096) ⌝ }
+    requires room { ⌜ 2 * length (now indices) + nv ≤ length (now words) ⌝ }
+    ensures { λ r. ⌜ now (words .exit) ≡ sets (now (words .entry)) 0 (loaded nv (now (indices .entry))) ⌝ }
+{
+    let n = indices.len();
+    copy_words(indices, words);
+    cage::link_words(indices, words, n);
+    cage::start_words(indices, nv, words, 2 * n);
+}
+
+// Where level i starts, in parts of n entries.
+pub fn start(i: u32, n: usize) -> usize
+    ensures { λ r. ⌜ r ≡ startOf i n ⌝ }
+{
+    if i % 2 == 0 { 0 } else { n }
 }
