@@ -1,18 +1,16 @@
 -- The levels of an accepted cage: sound, of small valence, and within the sizes of the last. Assumes nothing.
-use mathlib.Core.Path.{_≡_, sym, ap, _∙_}
+use mathlib.Core.Path.{_≡_, ap}
 use Prim.Native.Nat.{ℕ, _+_, _*_, _/_, _≤_, _<_}
 use native.Mathlib.Omega.{arith}
-use mathlib.Core.Bool.{Bool, true, false, not, _||_}
+use mathlib.Core.Bool.{not}
 use mathlib.Core.List.{List}
-use mathlib.Core.Option.{none}
 use lib.Dec.{T, ltb, nltb→le}
 use lib.ListN.{length}
 use Rattle.turns.specs.Turns.{mostValence}
 use Rattle.rules.specs.Mesh.{links, Mesh, cage, firsts, refined}
 use Rattle.rules.specs.Position.{Numbers}
-use Rattle.rules.specs.Levels.{Level, Sizes, first, last, levels, finer, sizes, after}
-use Rattle.rules.specs.Refusals.{mostInMesh, check, when, tooLarge, sizeRefusal}
-use Rattle.rules.specs.Answers.{counted}
+use Rattle.rules.specs.Levels.{Level, Sizes, first, levels, finer, sizes, after}
+use Rattle.rules.specs.Refusals.{mostInMesh, tooLarge, sizeRefusal}
 use Rattle.rules.proofs.Sound.{Sound}
 use Rattle.rules.proofs.Levels.{level, facesAt, sound-level, mesh-levels, counts-level, Small, small-level}
 use Rattle.rules.proofs.Growth.{levels-more, verts-up, faces-up, faces-four, faces-counted}

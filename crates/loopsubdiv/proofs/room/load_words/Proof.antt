@@ -1,35 +1,40 @@
 use borrow.Author.Needs.{needs}
+use denote.Ref.{now}
+use mathlib.Core.Path.{refl, ap, _∙_}
+use mathlib.Core.List.{List, map}
+use lib.ListN.{length}
+use lib.Seq.{sets}
+use Rattle.rules.specs.Mesh.{links, cage}
+use Rattle.faces.specs.Words.{coded}
+use Rattle.cage.proofs.Across.{length-words}
+use Prim.Native.Nat.{ℕ, _*_}
+use Rattle.loopsubdiv.proofs.Loaded.{run-on}
 use Rattle.loopsubdiv.proofs.room.load_words.Statement.{statement}
 use Rattle.loopsubdiv.proofs.room.load_words.Tie as tie
-use Rattle.loopsubdiv.proofs.room.load_words.Reads as reads
-use Rattle.loopsubdiv.proofs.room.load_words.Lts as lts
-use Rattle.cage.proofs.link_words.Reads as link-words-reads
-use Rattle.cage.proofs.start_words.Reads as start-words-reads
-use Rattle.loopsubdiv.proofs.room.copy_words.Reads as copy-words-reads
 
--- src/room.rt:156:5
 copy-words-requires : tie.Need-copy-words-requires
 copy-words-requires c κs = search needs
 
--- src/room.rt:157:5
 link-words-requires : tie.Need-link-words-requires
 link-words-requires c κs = search needs
 
--- src/room.rt:158:43
 mul-start-words : tie.Need-mul-start-words
 mul-start-words c = search needs
 
--- src/room.rt:158:5
 start-words-requires : tie.Need-start-words-requires
 start-words-requires c κs = search needs
 
--- src/room.rt:150:1
 same-length : tie.Need-same-length
 same-length c = search needs
 
--- src/room.rt:150:1
 returns : tie.Need-returns
-returns c = ?
+returns c =
+    let s = c .before .before .before .before .before .before .before .before .before .before .before .before .before .before in
+    let fs = now (s .args .indices) in
+    c .before .before .start-words .ensures
+    ∙ ap (λ (x : List ℕ). sets x (2 * length fs) (cage (s .args .nv) fs .starts))
+    (c .before .before .before .before .before .before .link-words .ensures ∙ ap (λ (x : List ℕ). sets x (length fs) (map coded (links fs))) (c .before .before .before .before .before .before .before .before .before .before .copy-words .ensures))
+    ∙ run-on (now (s .args .words)) fs (map coded (links fs)) (cage (s .args .nv) fs .starts) (length fs) refl (length-words fs)
 
 pub load-words-spec : {M : Type 1} → statement M
 load-words-spec =
