@@ -11,7 +11,7 @@ use Rattle.listing.specs.Text.{decimal, numeral, signedNumeral, meshLine
 abbrev row : ℕ → ℕ → ℕ → ℕ → List ℕ
 row w x y z = w ∷ 32 ∷ x ∷ 32 ∷ y ∷ 32 ∷ z ∷ 10 ∷ []
 
-abbrev T-text : List ℕ
+abbrev pub T-text : List ℕ
 T-text =
     109 ∷ 101 ∷ 115 ∷ (row 104 54 52 54
     ++ row 118 49 49 48 ++ row 118 53 49 48 ++ row 118 49 53 48 ++ row 118 52 48 48 ++ row 118 52 52 48 ++ row 118 48 52 48

@@ -1,14 +1,14 @@
 -- What the trailer alone decides of the call on a sheet, and what its lists are once decoded. Assumes nothing.
-use Prim.Native.Nat.{ℕ, _+_, _*_, _/_, _≤_}
+use Prim.Native.Nat.{ℕ, _*_, _/_, _≤_}
 use mathlib.Core.Path.{_≡_, refl, sym, ap, _∙_}
-use mathlib.Core.Bool.{Bool, true, false}
+use mathlib.Core.Bool.{false}
 use mathlib.Core.List.{List, _∷_, []}
 use mathlib.Core.Option.{Option, none, some}
 use native.Mathlib.Omega.{arith}
 use lib.IntN.{ℤ}
 use lib.ListN.{length, take}
 use lib.Seq.{sets, length-take-le}
-use Rattle.lists.specs.Lists.{pick, rows}
+use Rattle.lists.specs.Lists.{rows}
 use Rattle.lists.proofs.Places.{skip, taken}
 use Rattle.lists.proofs.Stores.{length-rows, length-part, part-of}
 use Rattle.rules.specs.Position.{whole}
@@ -16,7 +16,7 @@ use Rattle.rules.specs.Mesh.{cage}
 use Rattle.rules.specs.Levels.{first, positions as positionsOf}
 use Rattle.rules.specs.Refusals.{Room, check, when, shortOf, _orElse_, shapeRefusal, refusal}
 use Rattle.rules.specs.Answers.{unless, counted, outcome}
-use Rattle.rules.specs.Sheets.{wordAt, signed, wordsOf, coordsOf, badSheet, sheetVerts, sheetFaces, sheetLevels, vertexBlock, faceBlock, sheetIndices, sheetCoords, sheetOutcome}
+use Rattle.rules.specs.Sheets.{wordAt, signed, badSheet, sheetVerts, sheetFaces, sheetLevels, vertexBlock, faceBlock, sheetIndices, sheetCoords, sheetOutcome}
 use Rattle.rules.specs.declared.Counts.{Counts}
 use Rattle.rules.specs.declared.Refusal.{Refusal}
 use Rattle.rules.specs.declared.Outcome.{Outcome}
@@ -25,7 +25,8 @@ use Rattle.rules.proofs.Checks.{check-none, or-none}
 use Rattle.rules.proofs.Cage.{accepted}
 use Rattle.rules.proofs.Levels.{sound-level, mesh-levels}
 use Rattle.rules.proofs.Spokes.{length-positions}
-use Rattle.sheet.specs.Reading.{sheetOf, sheetLast}
+use Rattle.sheet.specs.Reading.{sheetOf}
+use Rattle.sheet.specs.Calls.{Lent, sheetLast, Subdivided}
 use Rattle.sheet.specs.declared.Sheet.the-variants as sheet
 use Rattle.sheet.proofs.Laws.{good-length}
 
@@ -84,6 +85,16 @@ module _ (rooms : Counts → List Room) (b : List ℕ) (good : badSheet b ≡ fa
       let i = one-each (λ k. wordAt (faceBlock b) (4 * k)) (3 * sheetFaces b) in
       let c = one-each (λ k. signed (wordAt (vertexBlock b) (4 * k))) (3 * sheetVerts b) in
       read-outcome ∙ rw (i, c, e)
+
+-- ---- one outcome: two that are allowed of the same sheet and buffers are the same
+
+pub one-outcome : (b : List ℕ) (ps qs : Lent ℤ) (is js ws xs : Lent ℕ) (cs ds : Lent ℤ) (r s : Outcome)
+    → ps .old ≡ qs .old → is .old ≡ js .old → ws .old ≡ xs .old → cs .old ≡ ds .old
+    → Subdivided b ps is ws cs r → Subdivided b qs js xs ds s
+    → (r ≡ s) × ((ps .new ≡ qs .new) × ((is .new ≡ js .new) × ((ws .new ≡ xs .new) × (cs .new ≡ ds .new))))
+one-outcome b ps qs is js ws xs cs ds r s p i w c f g =
+    let e : r ≡ s = f .answer ∙ rw (p, i, w, c) (sym (g .answer)) in
+    (e, (f .positions ∙ rw (e, p) (sym (g .positions)), (f .indices ∙ rw (e, i) (sym (g .indices)), (f .words ∙ rw (e, w) (sym (g .words)), f .work ∙ rw (e, c) (sym (g .work))))))
 
 -- ---- what a success says: nothing refused, the counts are those of the last level, and its lists are that long
 

@@ -2,9 +2,7 @@
 use Prim.Native.Nat.{ℕ, _*_}
 use mathlib.Core.List.{List}
 use Rattle.lists.specs.Lists.{pick}
-use Rattle.rules.specs.Position.{whole}
-use Rattle.rules.specs.Levels.{Level, last}
-use Rattle.rules.specs.Sheets.{badSheet, sheetVerts, sheetFaces, sheetLevels, sheetIndices, sheetCoords}
+use Rattle.rules.specs.Sheets.{badSheet, sheetVerts, sheetFaces, sheetLevels}
 use Rattle.sheet.specs.declared.Sheet.{Sheet}
 use Rattle.sheet.specs.declared.Sheet.the-variants as sheet
 
@@ -20,7 +18,3 @@ vertexBytes sheet.Refused = 0
 abbrev pub faceBytes : Sheet → ℕ
 faceBytes (sheet.Is v f l) = 12 * f
 faceBytes sheet.Refused = 0
-
--- the last level of the sheet's lists
-abbrev pub sheetLast : List ℕ → Level whole
-sheetLast b = last whole (sheetLevels b) (sheetIndices b) (sheetCoords b)
