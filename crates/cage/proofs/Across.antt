@@ -9,9 +9,10 @@ use mathlib.Core.Option.{Option, none, some}
 use lib.Dec.{T, T-not, not-T, eqb, ltb, eqb→eq, ltb→lt, lt→ltb}
 use lib.Ieee.Fits.{and-i, and-l, and-r, eq→eqb}
 use lib.ListN.{length, getD, take, length-map}
-use lib.Seq.{getD-take}
+use lib.Seq.{sets, getD-take}
 use Rattle.lists.specs.Lists.{count, find, lowest, found}
 use Rattle.lists.proofs.Places.{length-count, getD-count, getD-map, find-some, lowest-none}
+use Rattle.lists.proofs.Stores.{part-of}
 use Rattle.rules.specs.Mesh.{onward, backward, corner, side, links}
 use Rattle.rules.specs.Refusals.{has, sameSet}
 use Rattle.rules.proofs.Sides.{length-links, Twins, Unique, twin-some, twin-is}
@@ -73,6 +74,10 @@ coded-le fs s h = go (getD (links fs) s none) refl
     go : (o : Option ℕ) → getD (links fs) s none ≡ o → coded o ≤ length fs
     go none e = omega arith
     go (some t) e = twin-some fs s t h e .below
+
+-- as they stand after they were stored
+pub words-stored : (fs l w : List ℕ) → length fs ≤ length l → w ≡ sets l 0 (map coded (links fs)) → take (length fs) w ≡ map coded (links fs)
+words-stored fs l w h e = ap (take (length fs)) e ∙ part-of (map coded (links fs)) l 0 (length fs) (length-words fs) (omega arith)
 
 module _ (fs w : List ℕ) (e : take (length fs) w ≡ map coded (links fs)) where
   pub word-at : (s : ℕ) → s < length fs → getD w s 0 ≡ coded (getD (links fs) s none)

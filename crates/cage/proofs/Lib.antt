@@ -2,3 +2,5 @@ pub mod Search
 pub mod Chains
 pub mod Across
 pub mod Rounds
+pub mod Sizes
+pub mod Stages

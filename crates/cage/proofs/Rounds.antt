@@ -7,15 +7,16 @@ use mathlib.Core.Bool.{Bool, true, false, not, _&&_}
 use mathlib.Core.List.{List, [], _∷_, _++_, map}
 use mathlib.Core.Option.{Option, none, some}
 use lib.Dec.{T, eqb, ltb}
-use lib.ListN.{length, getD, set, take, length-map, length-set}
+use lib.ListN.{length, getD, set, take, replicate, length-map, length-set, length-replicate, getD-replicate}
 use lib.Seq.{ext-getD, getD-take, length-take-le, take-suc, getD-set-same, getD-set-other}
 use borrow.Author.Tests.{eq-eqb, ne-eqb, eqb-true, eqb-false, lt-ltb, le-ltb}
 use Rattle.lists.specs.Lists.{pick, count, bit, find, lowest, found, keep, tally, lastOf}
 use Rattle.lists.proofs.Places.{length-count, getD-count, getD-map, keep-suc, lowest-none}
 use Rattle.lists.proofs.Counting.{tally-append}
 use Rattle.turns.specs.Turns.{mostValence}
-use Rattle.rules.specs.Mesh.{corner, links, Fan, inner, rim, endless, fan, corners, valence, lastCorner, cage}
+use Rattle.rules.specs.Mesh.{corner, links, rims, Fan, inner, rim, endless, fan, corners, valence, lastCorner, cage}
 use Rattle.rules.specs.Refusals.{check, isEndless, fansOf}
+use Rattle.rules.proofs.Sides.{length-links}
 use Rattle.rules.proofs.Checks.{check-none}
 use Rattle.faces.specs.Words.{linkOf, coded, linksIn}
 use Rattle.faces.specs.Rings.{turnOf, valenceOf}
@@ -79,14 +80,17 @@ decoded : (ls : List (Option ℕ)) → map linkOf (map coded ls) ≡ ls
 decoded [] = refl
 decoded (o ∷ ls) = rw (link-coded o, decoded ls)
 
+pub links-all : (fs w : List ℕ) → take (length fs) w ≡ map coded (links fs) → linksIn w 0 (length fs) ≡ links fs
+links-all fs w e = ap (map linkOf) e ∙ decoded (links fs)
+
 pub links-in : (fs w : List ℕ) → length fs % 3 ≡ 0 → take (length fs) w ≡ map coded (links fs) → linksIn w 0 (3 * (length fs / 3)) ≡ links fs
 links-in fs w t e =
     let n : 3 * (length fs / 3) ≡ length fs = omega arith in
-    ap (map linkOf) (ap (λ (k : ℕ). take k w) n ∙ e) ∙ decoded (links fs)
+    ap (linksIn w 0) n ∙ links-all fs w e
 
 -- ---- corner counts
 
-tally-le : (p : ℕ → Bool) (l : List ℕ) → tally p l ≤ length l
+tally-le : {A : Type 0} (p : A → Bool) (l : List A) → tally p l ≤ length l
 tally-le p [] = omega arith
 tally-le p (x ∷ l) = let h = tally-le p l in go (p x) h
   where
@@ -96,6 +100,12 @@ tally-le p (x ∷ l) = let h = tally-le p l in go (p x) h
 
 tally-more : (fs : List ℕ) (s a : ℕ) → s < length fs → tally (eqb a) (take (s + 1) fs) ≡ tally (eqb a) (take s fs) + bit (eqb a (corner fs s))
 tally-more fs s a h = rw (add-one, take-suc fs s 0 h, tally-append (eqb a) (take s fs) (getD fs s 0 ∷ [])) (omega arith)
+
+pub rims-few : (fs : List ℕ) → rims (links fs) ≤ length fs
+rims-few fs = rw (← (length-links fs)) (tally-le (λ l. not (found l)) (links fs))
+
+pub counted-none : (fs : List ℕ) (n : ℕ) → Tallied fs 0 (replicate n 0)
+counted-none fs n = record { each = λ a h. getD-replicate n a 0 0 (rw (length-replicate {A = ℕ} n 0) at h) }
 
 module _ (fs : List ℕ) (s : ℕ) (h : s < length fs) (counts : List ℕ) where
   pub counted-few : (a : ℕ) → a < length counts → Tallied fs s counts → getD counts a 0 ≤ s

@@ -1,3 +1,4 @@
 pub mod Verdicts
 pub mod Chains
 pub mod Fans
+pub mod Sizes

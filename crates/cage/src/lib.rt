@@ -3,19 +3,25 @@
 ghost use mathlib.Core.Path.{_≡_};
 ghost use Prim.Native.Nat.{_+_, _≤_};
 ghost use mathlib.Core.List.{map};
-ghost use lib.ListN.{length};
+ghost use lib.ListN.{length, take};
 ghost use lib.Seq.{sets};
 ghost use Rattle.rules.specs.Mesh.{links, cage};
 ghost use Rattle.rules.specs.Position.{whole, single};
-ghost use Rattle.rules.specs.Refusals.{shapeRefusal, rangeRefusal};
+ghost use Rattle.rules.specs.Levels.{last};
+ghost use Rattle.rules.specs.Refusals.{shapeRefusal, rangeRefusal, sizeRefusal, refusal};
+ghost use Rattle.rules.specs.Answers.{counted, unless};
 ghost use Rattle.faces.specs.Words.{coded};
 ghost use Rattle.cage.specs.Verdicts.{verdictOf};
-ghost use Rattle.cage.specs.Chains.{Faces, Below, Once};
+ghost use Rattle.cage.specs.Chains.{Faces, Below, Apart, Once, Heads, Chained};
+ghost use Rattle.cage.specs.Fans.{Tables};
+ghost use Rattle.cage.specs.Sizes.{judged, fromNine, fromEight, fromSeven, fromFive, Listed};
+use rules::Outcome;
 use rules::Refusal;
 
 pub mod fans;
 pub mod list;
 pub mod sides;
+pub mod size;
 
 pub enum Check {
     Pass,
@@ -110,4 +116,99 @@ pub fn start_words(indices: &[u32], v: usize, words: &mut [u32], at: usize)
     let mut nexts = [0u32; 12288];
     sides::chain(indices, &mut heads, &mut nexts);
     sides::put_starts(&heads, v, words, at);
+}
+
+// 13, on a face list that passed all else.
+fn judge_size(levels: u32, indices: &[u32], words: &[u32], v: usize) -> Outcome
+    requires sizes { ⌜ (levels ≤ 7) × (v ≤ 4096) × Faces (now indices) × Listed v (now indices) ⌝ }
+    requires links { ⌜ (length (now indices) ≤ length (now words)) × (take (length (now indices)) (now words) ≡ map coded (links (now indices))) ⌝ }
+    ensures { λ r. ⌜ r ≡ judged (sizeRefusal levels v (now (indices .entry))) levels v (now (indices .entry)) ⌝ }
+{
+    let n = indices.len();
+    let f = (n / 3) as u32;
+    let r = size::count_rims(words, n);
+    let c = size::grown(levels, v as u32, f, (3 * f + r) / 2, r);
+    match size::size(c) {
+        Check::No(x) => Outcome::Refused(x),
+        Check::Pass => Outcome::Success(c),
+    }
+}
+
+fn judge_fans(levels: u32, indices: &[u32], heads: &[u32], words: &[u32], v: usize) -> Outcome
+    requires sizes { ⌜ (levels ≤ 7) × (v ≤ 4096) × (length (now heads) ≡ 4096) × Listed v (now indices) ⌝ }
+    requires tables { ⌜ Tables (now indices) (now heads) (now words) ⌝ }
+    ensures { λ r. ⌜ r ≡ judged (fromNine levels v (now (indices .entry))) levels v (now (indices .entry)) ⌝ }
+{
+    let mut counts = [0u32; 4096];
+    fans::count_corners(indices, &mut counts);
+    match fans::fans(indices, heads, &counts, words, v) {
+        Check::No(x) => Outcome::Refused(x),
+        Check::Pass => judge_size(levels, indices, words, v),
+    }
+}
+
+fn judge_links(levels: u32, indices: &[u32], heads: &[u32], nexts: &[u32], v: usize) -> Outcome
+    requires sizes { ⌜ (levels ≤ 7) × (v ≤ 4096) × (length (now heads) ≡ 4096) × Faces (now indices) ⌝ }
+    requires list { ⌜ Below v (now indices) × Apart (now indices) × Once (now indices) ⌝ }
+    requires chains { ⌜ Heads (now indices) (length (now indices)) (now heads) × Chained (now indices) (length (now indices)) (now nexts) ⌝ }
+    ensures { λ r. ⌜ r ≡ judged (fromEight levels v (now (indices .entry))) levels v (now (indices .entry)) ⌝ }
+{
+    let mut words = [0u32; 12288];
+    sides::put_links(indices, heads, nexts, &mut words, 0);
+    match list::doubled(indices, &words) {
+        Check::No(x) => Outcome::Refused(x),
+        Check::Pass => judge_fans(levels, indices, heads, &words, v),
+    }
+}
+
+fn judge_sides(levels: u32, indices: &[u32], v: usize) -> Outcome
+    requires { ⌜ (levels ≤ 7) × (v ≤ 4096) × Faces (now indices) × Below v (now indices) × Apart (now indices) ⌝ }
+    ensures { λ r. ⌜ r ≡ judged (fromSeven levels v (now (indices .entry))) levels v (now (indices .entry)) ⌝ }
+{
+    let mut heads = [0u32; 4096];
+    let mut nexts = [0u32; 12288];
+    sides::chain(indices, &mut heads, &mut nexts);
+    match list::reused(indices, &nexts) {
+        Check::No(x) => Outcome::Refused(x),
+        Check::Pass => judge_links(levels, indices, &heads, &nexts, v),
+    }
+}
+
+// 5 to 13: what does not ask for the kind of number.
+fn judge_faces(levels: u32, indices: &[u32], v: usize) -> Outcome
+    requires { ⌜ (levels ≤ 7) × (v ≤ 4096) × Faces (now indices) ⌝ }
+    ensures { λ r. ⌜ r ≡ judged (fromFive levels v (now (indices .entry))) levels v (now (indices .entry)) ⌝ }
+{
+    match list::beyond(indices, v as u32) {
+        Check::No(x) => Outcome::Refused(x),
+        Check::Pass => match list::flat(indices) {
+            Check::No(x) => Outcome::Refused(x),
+            Check::Pass => judge_sides(levels, indices, v),
+        },
+    }
+}
+
+// The refusal of a cage, or what its last level counts.
+pub fn judge_whole(levels: u32, indices: &[u32], coords: &[i32]) -> Outcome
+    ensures { λ r. ⌜ r ≡ unless (refusal whole levels (now (indices .entry)) (now (coords .entry))) (Outcome.Success (counted (last whole levels (now (indices .entry)) (now (coords .entry)) .mesh))) ⌝ }
+{
+    match shape(levels, indices.len(), coords.len()) {
+        Check::No(x) => Outcome::Refused(x),
+        Check::Pass => match whole_range(coords) {
+            Check::No(x) => Outcome::Refused(x),
+            Check::Pass => judge_faces(levels, indices, coords.len() / 3),
+        },
+    }
+}
+
+pub fn judge_single(levels: u32, indices: &[u32], coords: &[f32]) -> Outcome
+    ensures { λ r. ⌜ r ≡ unless (refusal single levels (now (indices .entry)) (now (coords .entry))) (Outcome.Success (counted (last single levels (now (indices .entry)) (now (coords .entry)) .mesh))) ⌝ }
+{
+    match shape(levels, indices.len(), coords.len()) {
+        Check::No(x) => Outcome::Refused(x),
+        Check::Pass => match single_range(coords) {
+            Check::No(x) => Outcome::Refused(x),
+            Check::Pass => judge_faces(levels, indices, coords.len() / 3),
+        },
+    }
 }

@@ -177,7 +177,7 @@ module _ (fs : List ℕ) (n : ℕ) (size : length fs ≡ 3 * n) where
       no-earlier f k h l t =
           T-not (sameSet fs f k) (lowest-none (sameSet fs f) f (not-found (lowest (sameSet fs f) f) (lowest-none (λ f. found (lowest (sameSet fs f) f)) n e f h)) k l) t
 
-      unfolded-sides : (s t : ℕ) → s < 3 * n → Twins fs s t → corner fs (backward s) ≢ corner fs (backward t)
+      pub unfolded-sides : (s t : ℕ) → s < 3 * n → Twins fs s t → corner fs (backward s) ≢ corner fs (backward t)
       unfolded-sides s t h w z =
           let ht : t < 3 * n = omega (arith, w .below) in
           let x : ¬ (t / 3 < s / 3) = λ l. no-earlier (s / 3) (t / 3) (omega arith) l (set-of s t (w .from) (w .to) (sym z)) in

@@ -1,0 +1,99 @@
+-- Counts known ahead. Assumes nothing.
+use mathlib.Core.Path.{_≡_, refl, sym, ap, ap₂, _∙_}
+use Prim.Native.Nat.{ℕ, zero, suc, _+_, _-_, _*_, _/_, _^_, _≤_, _<_}
+use native.Mathlib.Nat.{pow-le-pow-right}
+use native.Mathlib.Omega.{arith}
+use native.Mathlib.Numerals.{add-one}
+use mathlib.Core.Bool.{Bool, true, false, not}
+use mathlib.Core.List.{List, [], _∷_, _++_, map}
+use mathlib.Core.Option.{Option, none, some}
+use lib.ListN.{length, getD, take}
+use lib.Seq.{take-suc}
+use Rattle.lists.specs.Lists.{bit, found, tally}
+use Rattle.lists.proofs.Counting.{tally-append}
+use Rattle.rules.specs.Mesh.{Mesh, links, rims, firsts, cage}
+use Rattle.rules.specs.Levels.{Sizes, sizes, after, last}
+use Rattle.rules.specs.Position.{Numbers}
+use Rattle.rules.specs.Refusals.{refusal, sizeRefusal}
+use Rattle.rules.specs.Answers.{counted, unless}
+use Rattle.rules.specs.declared.Outcome.{Outcome}
+use Rattle.rules.specs.declared.Outcome.the-variants.{Success}
+use Rattle.rules.specs.declared.Counts.{Counts}
+use Rattle.rules.specs.declared.Refusal.{Refusal}
+use Rattle.rules.proofs.Cage.{accepted}
+use Rattle.rules.proofs.Refine.{Good}
+use Rattle.rules.proofs.Totals.{edges-twice}
+use Rattle.rules.proofs.Levels.{level, mesh-levels, countsOf, counts-level, rims-level}
+use Rattle.faces.specs.Words.{linkOf, linksIn}
+use Rattle.cage.specs.Sizes.{countsAfter, cageCounts, overOf}
+
+-- ---- rim sides
+
+map-append : {A B : Type 0} (f : A → B) (a b : List A) → map f (a ++ b) ≡ map f a ++ map f b
+map-append f [] b = refl
+map-append f (x ∷ a) b = rw (map-append f a b)
+
+pub rim-more : (w : List ℕ) (s : ℕ) → s < length w → rims (linksIn w 0 (s + 1)) ≡ rims (linksIn w 0 s) + bit (not (found (linkOf (getD w s 0))))
+rim-more w s h =
+    let p : Option ℕ → Bool = λ l. not (found l) in
+    ap (λ (l : List ℕ). rims (map linkOf l)) (ap (λ (n : ℕ). take n w) (add-one s) ∙ take-suc w s 0 h)
+    ∙ ap rims (map-append linkOf (take s w) (getD w s 0 ∷ []))
+    ∙ tally-append p (map linkOf (take s w)) (linkOf (getD w s 0) ∷ [])
+    ∙ omega arith
+
+pub bit-le : (b : Bool) → bit b ≤ 1
+bit-le true = omega arith
+bit-le false = omega arith
+
+-- ---- levels
+
+-- faces after so few levels
+pub few-faces : (i n : ℕ) → i ≤ 7 → n ≤ 4096 * 4 ^ i → n ≤ 67108864
+few-faces i n h l = let m : 4 ^ i ≤ 4 ^ 7 = pow-le-pow-right (omega arith) h in omega arith
+
+pub after-more : (l i : ℕ) (c : Sizes) → i < l → after (l - i) c ≡ after (l - (i + 1)) (record { verts = c .verts + c .edges; faces = 4 * c .faces; edges = 2 * c .edges + 3 * c .faces })
+after-more l i c h = let e : l - i ≡ suc (l - (i + 1)) = omega arith in ap (λ (n : ℕ). after n c) e
+
+pub rims-more : (l i r : ℕ) → i < l → 2 ^ (l - i) * r ≡ 2 ^ (l - (i + 1)) * (2 * r)
+rims-more l i r h =
+    let e : l - i ≡ suc (l - (i + 1)) = omega arith in
+    let p : 2 ^ suc (l - (i + 1)) ≡ 2 * 2 ^ (l - (i + 1)) = omega arith in
+    rw (e, p) (omega arith)
+
+-- ---- the sizes of a control cage
+
+pub sizes-are : (v n : ℕ) (fs : List ℕ) → Good v n fs → sizes (cage v fs) ≡ record { verts = v; faces = n; edges = (3 * n + rims (links fs)) / 2 }
+unfolding cage
+sizes-are v n fs g =
+    let a : length fs / 3 ≡ n = omega (arith, g .size) in
+    let b : length (firsts (links fs)) ≡ (3 * n + rims (links fs)) / 2 = omega (arith, edges-twice v n fs g) in
+    rw (a, b)
+
+pub size-is : (l v : ℕ) (fs : List ℕ) → sizeRefusal l v fs ≡ overOf (cageCounts l v fs)
+unfolding sizeRefusal
+size-is l v fs = refl
+
+abbrev put : Sizes → ℕ → Counts
+put s r = record { vertices = s .verts; faces = s .faces; rims = r }
+
+-- what is counted on the last level of an accepted cage
+counts-of : (𝓝 : Numbers) (l : ℕ) (fs : List ℕ) (xs : List (𝓝 .N)) → refusal 𝓝 l fs xs ≡ none → counted (last 𝓝 l fs xs .mesh) ≡ cageCounts l (length xs / 3) fs
+unfolding cage
+counts-of 𝓝 l fs xs e =
+    let v = length xs / 3 in
+    let n = length fs / 3 in
+    let w = accepted 𝓝 l fs xs e .sound in
+    let c = counts-level l n (cage v fs) w in
+    let r = rims-level l n (cage v fs) w in
+    ap counted (mesh-levels 𝓝 l _) ∙ both (level l (cage v fs)) (after l (sizes (cage v fs))) (2 ^ l * rims (links fs)) c r
+  where
+    both : (m : Mesh) (s : Sizes) (q : ℕ) → countsOf m ≡ s → rims (links (m .faces)) ≡ q → counted m ≡ record { vertices = s .verts; faces = s .faces; rims = q }
+    both m s q a b = ap₂ put a b
+
+pub counts-ahead : (𝓝 : Numbers) (l : ℕ) (fs : List ℕ) (xs : List (𝓝 .N))
+    → unless (refusal 𝓝 l fs xs) (Success (cageCounts l (length xs / 3) fs)) ≡ unless (refusal 𝓝 l fs xs) (Success (counted (last 𝓝 l fs xs .mesh)))
+counts-ahead 𝓝 l fs xs = go (refusal 𝓝 l fs xs) refl
+  where
+    go : (o : Option Refusal) → refusal 𝓝 l fs xs ≡ o → unless o (Success (cageCounts l (length xs / 3) fs)) ≡ unless o (Success (counted (last 𝓝 l fs xs .mesh)))
+    go none e = ap Success (sym (counts-of 𝓝 l fs xs e))
+    go (some r) e = refl

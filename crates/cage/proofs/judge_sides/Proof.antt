@@ -1,0 +1,90 @@
+use denote.Ref.{now}
+use native.Mathlib.Omega.{arith}
+use Prim.Native.Nat.{ℕ, _+_, _-_, _*_, _/_, _≤_, _<_}
+use mathlib.Core.Path.{_≡_, refl, sym, ap, _∙_}
+use mathlib.Core.List.{List, map}
+use mathlib.Core.Option.{Option}
+use lib.ListN.{length, getD, take, replicate}
+use Rattle.lists.specs.Lists.{lowest}
+use Rattle.rules.specs.Mesh.{sides}
+use Rattle.rules.specs.Refusals.{check, usedBefore}
+use Rattle.cage.specs.Sizes.{fromEight}
+use Rattle.cage.proofs.Chains.{heads-none, chained-none}
+use Rattle.cage.proofs.Stages.{below-more, once-of, unless-no, unless-goes}
+use borrow.Author.Needs.{needs}
+use Rattle.cage.proofs.judge_sides.Statement.{statement}
+use Rattle.cage.proofs.judge_sides.Tie as tie
+use Rattle.cage.proofs.judge_sides.Reads as reads
+use Rattle.cage.proofs.judge_sides.Lts as lts
+use Rattle.cage.proofs.judge_links.Reads as judge-links-reads
+use Rattle.cage.proofs.list.reused.Reads as reused-reads
+use Rattle.cage.proofs.sides.chain.Reads as chain-reads
+
+slice-aggregate-chain : tie.Need-slice-aggregate-chain
+slice-aggregate-chain c = search needs
+
+slice-aggregate-chain-2 : tie.Need-slice-aggregate-chain-2
+slice-aggregate-chain-2 c = search needs
+
+chain-requires : tie.Need-chain-requires
+chain-requires c κs =
+    let s = c .before .before .before in
+    let fs = now (s .args .indices) in
+    ((s .pre .2, below-more (s .args .v) 4096 fs (s .pre .1) (s .pre .3)), (heads-none fs 4096, chained-none fs 12288 (s .pre .2 .few)))
+
+slice-aggregate-reused : tie.Need-slice-aggregate-reused
+slice-aggregate-reused c = search needs
+
+reused-requires : tie.Need-reused-requires
+reused-requires c κs = search needs
+
+enum-known-x : tie.Need-enum-known-x
+enum-known-x c = search needs
+
+enum-told : tie.Need-enum-told
+enum-told c = search needs
+
+slice-aggregate-judge-links : tie.Need-slice-aggregate-judge-links
+slice-aggregate-judge-links c = search needs
+
+slice-aggregate-judge-links-2 : tie.Need-slice-aggregate-judge-links-2
+slice-aggregate-judge-links-2 c = search needs
+
+judge-links-requires : tie.Need-judge-links-requires
+judge-links-requires c κs =
+    let s = c .before .before .before .before .before .before .before .before .before .before .before .before in
+    let fs = now (s .args .indices) in
+    let k = c .before .before .before .before .before .before .before .before .chain in
+    let n : length (k .last .1 .0) ≡ 4096 = k .kept .1 .0 in
+    let e = sym (c .before .before .before .before .reused .ensures) ∙ c .before .before .enum-told .given .1 in
+    ((s .pre .0, s .pre .1, n, s .pre .2), ((s .pre .3, s .pre .4, once-of fs (s .pre .2) e), (k .ensures .0, k .ensures .1)))
+
+returns : tie.Need-returns
+returns c =
+    let a = c .before .before .before .before .before .before .before .before .before .before .before .args in
+    let fs = now (a .indices) in
+    unless-no (check 7 (lowest (usedBefore (sides fs)) (3 * (length fs / 3)))) (fromEight (a .levels) (a .v) fs) _ _ (sym (c .before .before .before .reused .ensures) ∙ c .before .x .given .1)
+
+returns-2 : tie.Need-returns-2
+returns-2 c =
+    let a = c .before .before .before .before .before .before .before .before .before .before .before .before .before .args in
+    let fs = now (a .indices) in
+    c .judge-links .ensures
+    ∙ sym (unless-goes (check 7 (lowest (usedBefore (sides fs)) (3 * (length fs / 3)))) (fromEight (a .levels) (a .v) fs) _ (sym (c .before .before .before .before .before .reused .ensures) ∙ c .before .before .before .enum-told .given .1))
+
+pub judge-sides-spec : {M : Type 1} → statement M
+judge-sides-spec =
+    tie.close
+    (tie.spec
+    slice-aggregate-chain
+    slice-aggregate-chain-2
+    chain-requires
+    slice-aggregate-reused
+    reused-requires
+    enum-known-x
+    enum-told
+    slice-aggregate-judge-links
+    slice-aggregate-judge-links-2
+    judge-links-requires
+    returns
+    returns-2)

@@ -1,0 +1,53 @@
+-- What is counted ahead, and the stages that are left after each. Assumes nothing.
+use Prim.Native.Nat.{ℕ, _*_, _/_, _^_}
+use mathlib.Core.Path.{_≡_}
+use mathlib.Core.Bool.{_||_}
+use mathlib.Core.List.{List}
+use mathlib.Core.Option.{Option, none}
+use lib.Dec.{ltb}
+use lib.ListN.{length}
+use Rattle.lists.specs.Lists.{lowest, found}
+use Rattle.rules.specs.Mesh.{sides, links, rims, cage}
+use Rattle.rules.specs.Levels.{Sizes, sizes, after}
+use Rattle.rules.specs.Refusals.{mostInMesh, check, _orElse_, when, sameSet, usedBefore, listRefusal, fanRefusal, sizeRefusal}
+use Rattle.rules.specs.Answers.{unless}
+use Rattle.rules.specs.declared.Refusal.{Refusal}
+use Rattle.rules.specs.declared.Counts.{Counts}
+use Rattle.rules.specs.declared.Outcome.{Outcome}
+use Rattle.rules.specs.declared.Outcome.the-variants.{Success}
+use Rattle.cage.specs.Chains.{Below, Apart, Once}
+
+-- the counts after l levels of a mesh of these sizes and r rim sides
+abbrev pub countsAfter : ℕ → Sizes → ℕ → Counts
+countsAfter l c r = record { vertices = after l c .verts; faces = after l c .faces; rims = 2 ^ l * r }
+
+-- those of a control cage
+abbrev pub cageCounts : ℕ → ℕ → List ℕ → Counts
+cageCounts l v fs = countsAfter l (sizes (cage v fs)) (rims (links fs))
+
+abbrev pub overOf : Counts → Option Refusal
+overOf c = check 13 (when (ltb mostInMesh (c .faces) || ltb mostInMesh (c .vertices)))
+
+-- what is left of the table from a check on: from 9, from 8, from 7, from 5
+abbrev pub fromNine : ℕ → ℕ → List ℕ → Option Refusal
+fromNine l v fs = fanRefusal v fs orElse sizeRefusal l v fs
+
+abbrev pub fromEight : ℕ → ℕ → List ℕ → Option Refusal
+fromEight l v fs = check 8 (lowest (λ f. found (lowest (sameSet fs f) f)) (length fs / 3)) orElse fromNine l v fs
+
+abbrev pub fromSeven : ℕ → ℕ → List ℕ → Option Refusal
+fromSeven l v fs = check 7 (lowest (usedBefore (sides fs)) (3 * (length fs / 3))) orElse fromEight l v fs
+
+abbrev pub fromFive : ℕ → ℕ → List ℕ → Option Refusal
+fromFive l v fs = listRefusal v fs orElse fromNine l v fs
+
+-- what is answered where such a rest is left
+abbrev pub judged : Option Refusal → ℕ → ℕ → List ℕ → Outcome
+judged rest l v fs = unless rest (Success (cageCounts l v fs))
+
+-- a face list after checks 5 to 8
+pub record Listed (v : ℕ) (fs : List ℕ) : Type 0 where
+  pub below : Below v fs
+  pub apart : Apart fs
+  pub once : Once fs
+  pub sets : lowest (λ f. found (lowest (sameSet fs f) f)) (length fs / 3) ≡ none
