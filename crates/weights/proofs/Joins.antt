@@ -30,7 +30,7 @@ numbers-vert : (vs : List ℕ) → numbers (map vert vs) ≡ vs
 numbers-vert [] = refl
 numbers-vert (v ∷ vs) = ap (λ (l : List ℕ). v ∷ l) (numbers-vert vs)
 
-numbers-held : (vs : List ℕ) (b : Bool) → length vs ≤ 16 → numbers (take (length vs) (held vs b .v)) ≡ vs
+pub numbers-held : (vs : List ℕ) (b : Bool) → length vs ≤ 16 → numbers (take (length vs) (held vs b .v)) ≡ vs
 numbers-held vs b h = ap numbers (held-front vs b h) ∙ numbers-vert vs
 
 module _ (𝓝 : Numbers) (s : Stage) (fs : List ℕ) (xs : List (𝓝 .N)) (u : ℕ) where

@@ -1,0 +1,4 @@
+pub mod Sums
+pub mod Valence
+pub mod Rings
+pub mod Held
