@@ -4,3 +4,4 @@ pub mod Rows
 pub mod Starts
 pub mod Growth
 pub mod Standing
+pub mod Moves

@@ -7,10 +7,14 @@ use native.Mathlib.Omega.{arith}
 use lib.ListN.{length, drop}
 use Rattle.lists.specs.Lists.{part}
 use Rattle.rules.specs.Mesh.{Mesh, links, firsts, refined}
+use Rattle.rules.specs.Position.{Numbers}
+use Rattle.rules.specs.Levels.{newPositions}
 use Rattle.rules.proofs.Sound.{Sound}
+use Rattle.rules.proofs.Levels.{Small}
 use Rattle.faces.specs.Words.{Holds}
 use Rattle.faces.proofs.Held.{faces-held, links-held, starts-held}
 use Rattle.levels.specs.Level.{meshIn, Ready, Grown}
+use Rattle.levels.specs.Moves.{Movable}
 
 module _ (w : List ℕ) (at n : ℕ) (m : Mesh) (h : Holds w at m) (p : Sound n m) where
   pub mesh-is : meshIn w at n (m .verts) ≡ m
@@ -37,3 +41,10 @@ module _ (w : List ℕ) (at n : ℕ) (m : Mesh) (h : Holds w at m) (p : Sound n 
 
     pub rest-after : (k : ℕ) → at + 9 * n + m .verts ≤ k → to + 24 * n + (m .verts + length (firsts (links (m .faces)))) ≤ k → drop k w′ ≡ drop k w
     rest-after k a b = g .rest k a (rw edges-are b)
+
+  -- and what the moves ask, and give
+  pub movable : Small 16 m → m .verts + 3 * n < 4294967296 → Movable w at n (m .verts)
+  movable few small = record { holds = rw mesh-is h; sound = rw mesh-is p; few = rw mesh-is few; small = small }
+
+  pub points-after : (𝓝 : Numbers) (xs : List (𝓝 .N)) → newPositions 𝓝 (meshIn w at n (m .verts)) (links (part at (3 * n) w)) xs ≡ newPositions 𝓝 m (links (m .faces)) xs
+  points-after 𝓝 xs = rw (mesh-is, faces-held w at n m h (p .good))

@@ -1,5 +1,8 @@
 // One level of a mesh that stands in lent words, in place of the Rust's hash maps by links alone: edge numbers, children, their links, start corners.
 // The level is read in one part of the words and the next one is written in the other; see crate `faces`, specs/Words.
+pub mod micrometres;
+pub mod points;
+
 ghost use mathlib.Core.Path.{_≡_};
 ghost use mathlib.Core.Logic.{_⊎_};
 ghost use Prim.Native.Nat.{ℕ, _+_, _-_, _*_, _≤_, _<_};
