@@ -1,10 +1,9 @@
 -- One level over words, step by step: what each step leaves, and that the refined mesh stands there in the end. Assumes nothing.
-use Prim.Native.Nat.{ℕ, zero, suc, _+_, _-_, _*_, _/_, _≤_, _<_}
+use Prim.Native.Nat.{ℕ, zero, suc, _+_, _*_, _/_, _≤_, _<_}
 use mathlib.Core.Path.{_≡_, refl, sym, ap, ap₂, _∙_}
 use mathlib.Core.Logic.{_⊎_, ⊎-elim, inl, inr}
 use mathlib.Core.List.{List, [], _∷_, _++_, map}
 use mathlib.Core.Option.{Option, none, some}
-use native.Mathlib.Numerals.{add-one}
 use native.Mathlib.Nat.{zero-add}
 use native.Mathlib.Omega.{arith}
 use lib.ListN.{length, getD, drop, length-map}
@@ -12,24 +11,18 @@ use lib.Seq.{sets, length-sets}
 use Rattle.lists.specs.Lists.{count, gather, part}
 use Rattle.lists.proofs.Places.{length-count, getD-count, getD-map, length-gather, gather-same, map-gather}
 use Rattle.lists.proofs.Stores.{drop-after, part-of, part-outside, part-add, length-part}
-use Rattle.rules.specs.Mesh.{onward, corner, links, Mesh, firsts, middle, children, restart, fourth, refined}
+use Rattle.rules.specs.Mesh.{onward, links, Mesh, firsts, middle, children, restart, fourth, refined}
 use Rattle.rules.proofs.Sides.{length-links}
 use Rattle.rules.proofs.Refine.{Good, finerOf, length-finer}
 use Rattle.rules.proofs.Faces.{link-link, link-below}
 use Rattle.rules.proofs.Grown.{twelve, grown, links-grown}
-use Rattle.rules.proofs.Sound.{Sound}
-use Rattle.faces.specs.Words.{linkOf, coded, linksIn, faceCount, Holds}
+use Rattle.faces.specs.Words.{linkOf, coded, linksIn, Holds}
+use Rattle.faces.proofs.Held.{link-coded}
 use Rattle.levels.specs.Level.{meshIn, Below, Mutual, childrenBy, linksBy, Ready, Grown}
-use Rattle.levels.proofs.Links.{length-in, link-in}
 
 decoded : (os : List (Option ℕ)) → map linkOf (map coded os) ≡ os
 decoded [] = refl
-decoded (none ∷ os) = ap {B = List (Option ℕ)} (λ l. none ∷ l) (decoded os)
-decoded (some t ∷ os) = ap {B = List (Option ℕ)} (λ l. some t ∷ l) (decoded os)
-
-recoded : (w : ℕ) → coded (linkOf w) ≡ w
-recoded zero = refl
-recoded (suc t) = refl
+decoded (o ∷ os) = ap₂ {C = List (Option ℕ)} (λ a l. a ∷ l) (link-coded o) (decoded os)
 
 word-below : (n w : ℕ) (o : Option ℕ) → linkOf w ≡ o → ((t : ℕ) → o ≡ some t → t < n) → w < n + 1
 word-below n zero o e h = omega arith

@@ -1,19 +1,18 @@
 -- The new positions of one level, for both kinds of number: what each point asks and is, and one point more of a loop. Assumes nothing.
 use Prim.Native.Nat.{ℕ, zero, suc, _+_, _-_, _*_, _≤_, _<_}
 use mathlib.Core.Path.{_≡_, refl, sym, ap, ap₂, _∙_}
-use mathlib.Core.Logic.{_⊎_, ⊎-elim, inl, inr}
+use mathlib.Core.Logic.{⊎-elim, inl, inr}
 use mathlib.Core.Bool.{Bool, true, false}
-use mathlib.Core.List.{List, [], _∷_, _++_}
+use mathlib.Core.List.{List}
 use mathlib.Core.Option.{Option, none, some}
 use native.Mathlib.Omega.{arith}
-use native.Mathlib.Nat.{mul-le-mul-left}
 use lib.IntN.{ℤ}
 use lib.Ieee.{Float}
 use lib.ListN.{length, getD, take, drop}
 use lib.Seq.{sets}
 use Rattle.lists.specs.Lists.{count, keep, gather, part}
 use Rattle.lists.proofs.Places.{length-count, length-gather, length-keep, rank-le}
-use Rattle.lists.proofs.Stores.{sets-next, length-part, part-outside, piece-more, kept-room, kept-more, kept-same, kept-count}
+use Rattle.lists.proofs.Stores.{sets-next, part-outside, piece-more, kept-room, kept-more, kept-same, kept-count}
 use Rattle.rules.specs.Mesh.{onward, backward, corner, links, isFirst, firstMet, firsts, fan, Mesh}
 use Rattle.rules.specs.Position.{refining, Numbers}
 use Rattle.rules.specs.Levels.{three, moved, edgeAt, newPositions}
@@ -23,6 +22,7 @@ use Rattle.rules.proofs.Range.{AllNear}
 use Rattle.faces.specs.Words.{linkOf, coded, linksIn}
 use Rattle.faces.specs.Rings.{Ringable, ringOf}
 use Rattle.faces.specs.declared.Ring.{Ring}
+use Rattle.faces.proofs.Links as words
 use Rattle.faces.proofs.Held.{link-coded, room-held, corner-word, corner-below, link-word, link-bound, start-below, start-ringable, start-ring}
 use Rattle.weights.specs.Lent.{byRing, onRim, within, Readable, AllReadable, There, AllThere}
 use Rattle.weights.proofs.Joins.{ringAt, readable, there, ring-filled, ring-readable, ring-there, moved-by, rim-edge, inner-edge}
@@ -35,12 +35,10 @@ lent-is l from n = let e : from + n - from ≡ n = omega arith in rw e
 
 -- what a link word says
 no-link : (o : Option ℕ) → coded o ≡ 0 → o ≡ none
-no-link none e = refl
-no-link (some t) e = absurd (omega arith)
+no-link o e = sym (link-coded o) ∙ ap linkOf e
 
 a-link : (o : Option ℕ) → (coded o ≡ 0 → ⊥) → o ≡ some (coded o - 1)
-a-link none h = absurd (h refl)
-a-link (some t) h = let e : suc t - 1 ≡ t = omega arith in rw e
+a-link o h = sym (link-coded o) ∙ words.link-word (coded o) h
 
 one-less : {n : ℕ} (y : ℕ) → (y ≡ 0 → ⊥) → y ≤ n → y - 1 < n
 one-less zero f l = absurd (f refl)

@@ -1,20 +1,19 @@
 -- Start corners: of the old vertices, and of the new ones in the order in which their edges are first met. Assumes nothing.
-use Prim.Native.Nat.{ℕ, _+_, _*_, _≤_, _<_}
+use Prim.Native.Nat.{ℕ, _+_, _≤_, _<_}
 use mathlib.Core.Path.{_≡_, refl, sym, ap, _∙_}
 use mathlib.Core.Logic.{_⊎_, ⊎-elim, inl, inr}
 use mathlib.Core.Bool.{Bool, true}
 use mathlib.Core.List.{List, [], _∷_, map}
-use mathlib.Core.Option.{Option}
 use native.Mathlib.Numerals.{add-one}
 use native.Mathlib.Omega.{arith}
 use lib.ListN.{length, getD, set, take, length-map}
 use lib.Seq.{sets, take-suc, length-take-le}
 use Rattle.lists.specs.Lists.{count, keep, gather, part}
 use Rattle.lists.proofs.Places.{gather-one}
-use Rattle.lists.proofs.Stores.{length-part, getD-beside, sets-map, kept-read, kept-room, kept-more}
+use Rattle.lists.proofs.Stores.{getD-part, length-part, getD-beside, sets-map, kept-read, kept-room, kept-more}
 use Rattle.rules.specs.Mesh.{isFirst, firstMet, firsts, restart, fourth}
 use Rattle.faces.specs.Words.{linkOf, linksIn}
-use Rattle.levels.proofs.Links.{length-in, link-in}
+use Rattle.faces.proofs.Links.{length-linksIn, getD-linksIn}
 
 module _ (l : List ℕ) (starts to v u : ℕ) (room : starts + v ≤ length l) (apart : (starts + v ≤ to) ⊎ (to + v ≤ starts)) (h : u < v) where
   abbrev olds : List ℕ
@@ -35,7 +34,7 @@ abbrev pub startOf : ℕ → List ℕ
 startOf s = fourth s ∷ []
 
 pub firsts-are : (l : List ℕ) (links n : ℕ) → links + n ≤ length l → firsts (linksIn l links n) ≡ keep (firstMet (linksIn l links n)) (count 0 n)
-firsts-are l links n room = ap (λ (z : ℕ). keep (firstMet (linksIn l links n)) (count 0 z)) (length-in l links n room)
+firsts-are l links n room = ap (λ (z : ℕ). keep (firstMet (linksIn l links n)) (count 0 z)) (length-linksIn l links n room)
 
 module _ (l : List ℕ) (links to n s : ℕ) (room : links + n ≤ length l) (apart : (links + n ≤ to) ⊎ (to + length (firsts (linksIn l links n)) ≤ links)) (h : s < n) where
   abbrev met : ℕ → Bool
@@ -46,7 +45,7 @@ module _ (l : List ℕ) (links to n s : ℕ) (room : links + n ≤ length l) (ap
   met-word w e =
       let c = ap (λ (xs : List ℕ). length xs) (firsts-are l links n room) in
       let r = kept-read startOf 1 (λ _. refl) met l to n s h links n s 0 h (⊎-elim (λ p. inl p) (λ p. inr (omega arith)) apart) in
-      rw (e, r) (ap (isFirst s) (sym (link-in l links n room s h)))
+      rw (e, r, getD-part l links n s 0 h) (ap (isFirst s) (sym (getD-linksIn l links n room s h)))
 
   pub met-room : met s ≡ true → length (keep met (count 0 s)) < length (firsts (linksIn l links n))
   met-room e = rw (firsts-are l links n room) (kept-room startOf 1 (λ _. refl) met l to n s h e)

@@ -5,12 +5,12 @@ pub mod points;
 
 ghost use mathlib.Core.Path.{_≡_};
 ghost use mathlib.Core.Logic.{_⊎_};
-ghost use Prim.Native.Nat.{ℕ, _+_, _-_, _*_, _≤_, _<_};
-ghost use mathlib.Core.List.{List, [], _∷_, map};
+ghost use Prim.Native.Nat.{_+_, _-_, _*_, _≤_, _<_};
+ghost use mathlib.Core.List.{[], _∷_, map};
 ghost use lib.ListN.{length, getD};
 ghost use lib.Seq.{sets};
 ghost use Rattle.lists.specs.Lists.{pick, bit, count, gather, part};
-ghost use Rattle.rules.specs.Mesh.{links, isFirst, firstMet, firsts, middle, four, restart, fourth};
+ghost use Rattle.rules.specs.Mesh.{links, isFirst, firsts, middle, four, restart, fourth};
 ghost use Rattle.faces.specs.Words.{linkOf, linksIn};
 ghost use Rattle.levels.specs.Level.{Below, Mutual, childrenBy, firstHalf, secondHalf, twelveWords, linksBy, Ready, Grown};
 

@@ -10,9 +10,6 @@ use borrow.Author.Needs.{needs}
 use native.Mathlib.Omega.{arith}
 use Rattle.levels.proofs.child_links.Statement.{statement}
 use Rattle.levels.proofs.child_links.Tie as tie
-use Rattle.levels.proofs.child_links.Reads as reads
-use Rattle.levels.proofs.child_links.Lts as lts
-use Rattle.levels.proofs.put_links.Reads as put-links-reads
 
 abbrev Inv-loop : tie.InvT-loop
 Inv-loop words₀ links to nf f₀ words f = (f ≤ nf) × ((length words ≡ length words₀) × (words ≡ sets words₀ to (gather (linksBy (part links (3 * nf) words₀)) (count 0 f))))

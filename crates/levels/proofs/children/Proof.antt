@@ -1,8 +1,7 @@
 use denote.Ref.{now}
-use Prim.Native.Nat.{ℕ, _+_, _-_, _*_, _≤_, _<_}
-use mathlib.Core.Path.{_≡_, refl, sym, ap, _∙_}
-use mathlib.Core.List.{List}
-use lib.ListN.{length, getD}
+use Prim.Native.Nat.{_-_, _*_, _≤_}
+use mathlib.Core.Path.{_≡_, refl, ap, _∙_}
+use lib.ListN.{length}
 use lib.Seq.{sets, length-sets}
 use Rattle.lists.specs.Lists.{count, gather, part}
 use Rattle.levels.specs.Level.{childrenBy}
@@ -11,9 +10,6 @@ use borrow.Author.Needs.{needs}
 use native.Mathlib.Omega.{arith}
 use Rattle.levels.proofs.children.Statement.{statement}
 use Rattle.levels.proofs.children.Tie as tie
-use Rattle.levels.proofs.children.Reads as reads
-use Rattle.levels.proofs.children.Lts as lts
-use Rattle.levels.proofs.put_children.Reads as put-children-reads
 
 abbrev Inv-loop : tie.InvT-loop
 Inv-loop words₀ at mids to nf f₀ words f = (f ≤ nf) × ((length words ≡ length words₀) × (words ≡ sets words₀ to (gather (childrenBy (part at (3 * nf) words₀) (part mids (3 * nf) words₀)) (count 0 f))))

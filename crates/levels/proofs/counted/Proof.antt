@@ -3,8 +3,6 @@ use mathlib.Core.Path.{sym}
 use native.Mathlib.Nat.{add-zero}
 use Rattle.levels.proofs.counted.Statement.{statement}
 use Rattle.levels.proofs.counted.Tie as tie
-use Rattle.levels.proofs.counted.Reads as reads
-use Rattle.levels.proofs.counted.Lts as lts
 
 add-result : tie.Need-add-result
 add-result c = search needs

@@ -1,12 +1,9 @@
 use native.Mathlib.Omega.{arith}
 use borrow.Author.Needs.{needs}
-use mathlib.Core.Path.{_≡_, sym, _∙_}
+use mathlib.Core.Path.{sym, _∙_}
 use Rattle.levels.proofs.Links.{Later, later-word}
 use Rattle.levels.proofs.edge_number.Statement.{statement}
 use Rattle.levels.proofs.edge_number.Tie as tie
-use Rattle.levels.proofs.edge_number.Reads as reads
-use Rattle.levels.proofs.edge_number.Lts as lts
-use Rattle.levels.proofs.first_met.Reads as first-met-reads
 
 first-met-requires : tie.Need-first-met-requires
 first-met-requires c κs = search needs

@@ -1,12 +1,8 @@
 use Rattle.rules.specs.Mesh.{restart}
 use Rattle.levels.proofs.Links.{across-word}
-use native.Mathlib.Omega.{arith}
 use borrow.Author.Needs.{needs}
 use Rattle.levels.proofs.first_half.Statement.{statement}
 use Rattle.levels.proofs.first_half.Tie as tie
-use Rattle.levels.proofs.first_half.Reads as reads
-use Rattle.levels.proofs.first_half.Lts as lts
-use Rattle.levels.proofs.restarted.Reads as restarted-reads
 
 sub-restarted : tie.Need-sub-restarted
 sub-restarted c = search needs

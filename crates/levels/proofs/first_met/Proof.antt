@@ -2,14 +2,10 @@ use borrow.Author.Needs.{needs}
 use Rattle.levels.proofs.Links.{met-no-earlier}
 use Rattle.levels.proofs.first_met.Statement.{statement}
 use Rattle.levels.proofs.first_met.Tie as tie
-use Rattle.levels.proofs.first_met.Reads as reads
-use Rattle.levels.proofs.first_met.Lts as lts
 
--- src/lib.rt:15:1
 returns : tie.Need-returns
 returns c = search needs
 
--- src/lib.rt:15:1
 returns-2 : tie.Need-returns-2
 returns-2 c = met-no-earlier _ _ (c .if1 .left)
 

@@ -1,9 +1,9 @@
 use denote.Ref.{now}
-use Prim.Native.Nat.{ℕ, _+_, _-_, _*_, _≤_, _<_}
-use mathlib.Core.Path.{_≡_, refl, sym, ap, _∙_}
+use Prim.Native.Nat.{_-_, _≤_, _<_}
+use mathlib.Core.Path.{_≡_, refl, sym, _∙_}
 use mathlib.Core.Logic.{⊎-elim}
 use mathlib.Core.Bool.{true}
-use lib.ListN.{length, getD, length-set}
+use lib.ListN.{length, length-set}
 use lib.Seq.{sets}
 use Rattle.lists.specs.Lists.{count, keep, gather}
 use Rattle.lists.proofs.Stores.{kept-same, kept-count}
@@ -14,10 +14,6 @@ use borrow.Author.Needs.{needs}
 use native.Mathlib.Omega.{arith}
 use Rattle.levels.proofs.new_starts.Statement.{statement}
 use Rattle.levels.proofs.new_starts.Tie as tie
-use Rattle.levels.proofs.new_starts.Reads as reads
-use Rattle.levels.proofs.new_starts.Lts as lts
-use Rattle.levels.proofs.first_met.Reads as first-met-reads
-use Rattle.levels.proofs.in_fourth.Reads as in-fourth-reads
 
 abbrev Inv-loop : tie.InvT-loop
 Inv-loop words₀ links to sides k₀ s₀ words k s = (s ≤ sides) × ((length words ≡ length words₀) × ((k ≡ length (keep (firstMet (linksIn words₀ links sides)) (count 0 s))) × (words ≡ sets words₀ to (gather startOf (keep (firstMet (linksIn words₀ links sides)) (count 0 s))))))

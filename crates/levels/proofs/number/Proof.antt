@@ -1,8 +1,8 @@
 use denote.Ref.{now}
-use Prim.Native.Nat.{ℕ, _+_, _-_, _≤_, _<_}
-use mathlib.Core.Path.{_≡_, refl, sym, ap, _∙_}
-use mathlib.Core.List.{List, map}
-use lib.ListN.{length, getD, set, length-set}
+use Prim.Native.Nat.{_-_, _≤_, _<_}
+use mathlib.Core.Path.{_≡_, refl, _∙_}
+use mathlib.Core.List.{map}
+use lib.ListN.{length, length-set}
 use lib.Seq.{sets}
 use Rattle.lists.specs.Lists.{count, tally}
 use Rattle.lists.proofs.Places.{tally-below}
@@ -13,11 +13,6 @@ use borrow.Author.Needs.{needs}
 use native.Mathlib.Omega.{arith}
 use Rattle.levels.proofs.number.Statement.{statement}
 use Rattle.levels.proofs.number.Tie as tie
-use Rattle.levels.proofs.number.Reads as reads
-use Rattle.levels.proofs.number.Lts as lts
-use Rattle.levels.proofs.counted.Reads as counted-reads
-use Rattle.levels.proofs.edge_number.Reads as edge-number-reads
-use Rattle.levels.proofs.first_met.Reads as first-met-reads
 
 abbrev Inv-loop : tie.InvT-loop
 Inv-loop words₀ links mids sides v k₀ s₀ words k s = (s ≤ sides) × ((length words ≡ length words₀) × ((k ≡ tally (firstMet (linksIn words₀ links sides)) (count 0 s)) × (words ≡ sets words₀ mids (map (middle v (linksIn words₀ links sides)) (count 0 s)))))

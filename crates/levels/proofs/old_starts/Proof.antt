@@ -1,6 +1,6 @@
 use denote.Ref.{now}
-use Prim.Native.Nat.{ℕ, _+_, _-_, _*_, _≤_, _<_}
-use mathlib.Core.Path.{_≡_, refl, ap, _∙_}
+use Prim.Native.Nat.{_+_, _-_, _≤_, _<_}
+use mathlib.Core.Path.{_≡_, refl, _∙_}
 use mathlib.Core.List.{map}
 use lib.ListN.{length, getD, take, length-set}
 use lib.Seq.{sets, take-all}
@@ -12,9 +12,6 @@ use borrow.Author.Needs.{needs}
 use native.Mathlib.Omega.{arith}
 use Rattle.levels.proofs.old_starts.Statement.{statement}
 use Rattle.levels.proofs.old_starts.Tie as tie
-use Rattle.levels.proofs.old_starts.Reads as reads
-use Rattle.levels.proofs.old_starts.Lts as lts
-use Rattle.levels.proofs.restarted.Reads as restarted-reads
 
 abbrev Inv-loop : tie.InvT-loop
 Inv-loop words₀ starts to v sides u₀ words u = (u ≤ v) × ((length words ≡ length words₀) × (words ≡ sets words₀ to (map restart (take u (part starts v words₀)))))

@@ -1,12 +1,10 @@
-use native.Mathlib.Numerals.{add-one}
 use lib.ListN.{length-set}
-use Rattle.levels.proofs.Links.{add-two}
+use denote.Ref.{now}
+use Rattle.lists.proofs.Stores.{sets-three}
 use native.Mathlib.Omega.{arith}
 use borrow.Author.Needs.{needs}
 use Rattle.levels.proofs.put3.Statement.{statement}
 use Rattle.levels.proofs.put3.Tie as tie
-use Rattle.levels.proofs.put3.Reads as reads
-use Rattle.levels.proofs.put3.Lts as lts
 
 mul-words : tie.Need-mul-words
 mul-words c = search needs
@@ -36,7 +34,7 @@ same-length : tie.Need-same-length
 same-length c = search needs
 
 returns : tie.Need-returns
-returns c = rw (add-one, add-two)
+returns c = let a = c .args in sets-three (now (a .words)) (a .j) (a .a) (a .b) (a .c)
 
 pub put3-spec : {M : Type 1} → statement M
 put3-spec =

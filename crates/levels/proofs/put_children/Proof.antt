@@ -1,16 +1,10 @@
 use denote.Ref.{now}
-use Prim.Native.Nat.{ℕ, _+_}
-use mathlib.Core.Path.{refl, ap, _∙_}
-use mathlib.Core.List.{List, [], _∷_}
-use lib.Seq.{sets}
+use mathlib.Core.Path.{refl}
+use mathlib.Core.List.{[], _∷_}
 use Rattle.levels.proofs.Links.{four-sets}
-use native.Mathlib.Omega.{arith}
 use borrow.Author.Needs.{needs}
 use Rattle.levels.proofs.put_children.Statement.{statement}
 use Rattle.levels.proofs.put_children.Tie as tie
-use Rattle.levels.proofs.put_children.Reads as reads
-use Rattle.levels.proofs.put_children.Lts as lts
-use Rattle.levels.proofs.put3.Reads as put3-reads
 
 put3-requires : tie.Need-put3-requires
 put3-requires c κs = search needs

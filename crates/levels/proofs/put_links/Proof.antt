@@ -1,18 +1,12 @@
 use denote.Ref.{now}
-use Prim.Native.Nat.{ℕ, _+_, _*_}
+use Prim.Native.Nat.{_+_, _*_}
 use mathlib.Core.Path.{refl}
-use mathlib.Core.List.{List, [], _∷_}
+use mathlib.Core.List.{[], _∷_}
 use Rattle.levels.specs.Level.{firstHalf, secondHalf}
 use Rattle.levels.proofs.Links.{four-sets}
-use native.Mathlib.Omega.{arith}
 use borrow.Author.Needs.{needs}
 use Rattle.levels.proofs.put_links.Statement.{statement}
 use Rattle.levels.proofs.put_links.Tie as tie
-use Rattle.levels.proofs.put_links.Reads as reads
-use Rattle.levels.proofs.put_links.Lts as lts
-use Rattle.levels.proofs.first_half.Reads as first-half-reads
-use Rattle.levels.proofs.put3.Reads as put3-reads
-use Rattle.levels.proofs.second_half.Reads as second-half-reads
 
 mul-e : tie.Need-mul-e
 mul-e c = search needs

@@ -1,14 +1,8 @@
 use Rattle.rules.specs.Mesh.{onward, backward, restart}
 use Rattle.levels.proofs.Links.{across-word}
-use native.Mathlib.Omega.{arith}
 use borrow.Author.Needs.{needs}
 use Rattle.levels.proofs.second_half.Statement.{statement}
 use Rattle.levels.proofs.second_half.Tie as tie
-use Rattle.levels.proofs.second_half.Reads as reads
-use Rattle.levels.proofs.second_half.Lts as lts
-use Rattle.faces.proofs.backward.Reads as backward-reads
-use Rattle.faces.proofs.onward.Reads as onward-reads
-use Rattle.levels.proofs.restarted.Reads as restarted-reads
 
 sub-onward : tie.Need-sub-onward
 sub-onward c = search needs
