@@ -2,3 +2,5 @@ pub mod Sums
 pub mod Valence
 pub mod Rings
 pub mod Held
+pub mod Sizes
+pub mod Finite

@@ -89,7 +89,7 @@ module _ (p d : Vec3) where
   four-are (a ∷ b ∷ c ∷ []) h = absurd (omega arith)
   four-are (a ∷ b ∷ c ∷ e ∷ l) h = refl
 
-  rim-many : (rs : List Vec3) (m : ℕ) → length rs ≡ suc m → 4 ≤ m →
+  pub rim-many : (rs : List Vec3) (m : ℕ) → length rs ≡ suc m → 4 ≤ m →
       rimTangent p rs ≡ negated (weighted (rimWeight m) 1 (scaled (plus (getD rs 0 d) (getD rs m d)) (halfSine 1 m)) (part 1 (m - 1) rs))
   rim-many [] m e h = absurd (omega arith)
   rim-many (a ∷ []) m e h = absurd (omega arith)

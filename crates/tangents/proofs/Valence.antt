@@ -30,7 +30,7 @@ module _ (v n : ℕ) (fs : List ℕ) (g : Good v n fs) where
       let q : backward s ≡ s = one-edge v n fs g s (backward t) (backward s) t h c d (omega arith) (omega arith) in
       absurd (omega arith)
 
-  inner-three : (s : ℕ) (cs : List ℕ) → Round n fs s cs → 3 ≤ length cs
+  pub inner-three : (s : ℕ) (cs : List ℕ) → Round n fs s cs → 3 ≤ length cs
   inner-three s [] r = absurd (omega (arith, r .filled))
   inner-three s (c ∷ []) r = absurd (leaves c c (r .corners .below 0 (omega arith)) (r .corners .below 0 (omega arith)) (r .closes) refl)
   inner-three s (c ∷ d ∷ []) r = absurd (no-return c d (r .corners .below 0 (omega arith)) (r .corners .below 1 (omega arith)) (r .next 0 (omega arith)) (r .closes))
