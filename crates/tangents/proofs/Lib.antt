@@ -3,4 +3,5 @@ pub mod Valence
 pub mod Rings
 pub mod Held
 pub mod Sizes
-pub mod Finite
+pub mod FinitePositions
+pub mod FiniteNormals

@@ -78,7 +78,7 @@ module _ (w : List ℕ) (at n v : ℕ) (xs : List Float) (h : Smooth w at n v xs
         (ap (tangentsBy xs u) ring-is
         ∙ tangents-of n (mesh .faces) xs u start (fan (links (mesh .faces)) start) (turned v n (mesh .faces) (h .sound .good) start (h .sound .below u k)) few)
 
-three-long : (m : Mesh) (ls : List (Option ℕ)) (xs : List Float) (v : ℕ) → length (normalAt m ls xs v) ≡ 3
+pub three-long : (m : Mesh) (ls : List (Option ℕ)) (xs : List Float) (v : ℕ) → length (normalAt m ls xs v) ≡ 3
 unfolding normalAt
 three-long m ls xs v = refl
 

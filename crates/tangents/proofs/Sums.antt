@@ -24,7 +24,7 @@ but-last : (e : Vec3) (l : List Vec3) → allButLast (e ∷ l) ≡ take (length 
 but-last e [] = refl
 but-last e (q ∷ l) = ap (λ (r : List Vec3). e ∷ r) (but-last q l)
 
-last-is : (e d : Vec3) (l : List Vec3) → lastOf e l ≡ getD (e ∷ l) (length l) d
+pub last-is : (e d : Vec3) (l : List Vec3) → lastOf e l ≡ getD (e ∷ l) (length l) d
 last-is e d [] = refl
 last-is e d (q ∷ l) = last-is q d l
 

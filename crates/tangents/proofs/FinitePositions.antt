@@ -1,6 +1,5 @@
--- No accepted cage gives a NaN or an infinity: coordinates of size at most 2 ^ 40 at most double with each level, and normals stay below 2 ^ 110. Assumes nothing.
+-- No limit position of an accepted cage is a NaN or an infinity: sizes begin at 2 ^ 40 at most, and a level or the limit at most doubles them. Assumes nothing.
 use mathlib.Core.Path.{_≡_, refl, sym, ap, _∙_}
-use mathlib.Core.Logic.{_≢_}
 use Prim.Native.Nat.{ℕ, zero, suc, _+_, _-_, _*_, _/_, _%_, _^_, _≤_, _<_, zero-le, suc-le-suc, min, max}
 use native.Mathlib.Nat.{le-trans, le-of-eq, le-of-lt, mul-le-mul-left, mul-le-mul-right, div-mul-le-self, div-le-self}
 use native.Mathlib.Omega.{arith}
@@ -36,7 +35,7 @@ use Rattle.tangents.proofs.Valence.{inner-three}
 abbrev pub Near : ℕ → Float → Type 0
 Near j x = Size (262144 * 2 ^ j) 1 x
 
-weaken : (a b c : ℕ) (x : Float) → a ≤ b → Size a c x → Size b c x
+pub weaken : (a b c : ℕ) (x : Float) → a ≤ b → Size a c x → Size b c x
 weaken a b c nan h p = p
 weaken a b c (inf s) h p = p
 weaken a b c (fin s m e) h p = le-trans p (mul-le-mul-right (down e) h)
@@ -47,17 +46,17 @@ step a j x h p =
     let e : 2 ^ (j + 1) ≡ 2 ^ j * 2 = pow-add 2 j 1 in
     weaken (a * 2 ^ j) (262144 * 2 ^ (j + 1)) 1 x (omega (arith, e, mul-le-mul-right (2 ^ j) h)) p
 
-zero-size : (a : ℕ) → Size a 1 (f32 0)
+pub zero-size : (a : ℕ) → Size a 1 (f32 0)
 unfolding ofInt
 zero-size a = zero-le
 
 -- a test that computes
-abbrev sized : ℕ → ℕ → Float → Bool
+abbrev pub sized : ℕ → ℕ → Float → Bool
 sized a c nan = false
 sized a c (inf s) = false
 sized a c (fin s m e) = leb (m * up e * c) (a * down e)
 
-tested : (a c : ℕ) (x : Float) → T (sized a c x) → Size a c x
+pub tested : (a c : ℕ) (x : Float) → T (sized a c x) → Size a c x
 tested a c nan t = t
 tested a c (inf s) t = t
 tested a c (fin s m e) t = leb→le (m * up e * c) (a * down e) t
@@ -241,7 +240,7 @@ allowed-near (inf false) t = t
 allowed-near (fin true m e) t = at-least (1 * up (pos 40) * down e) (m * up e * 1) _ (and-r (le (fin true m e) farthest) (le (neg farthest) (fin true m e)) t)
 allowed-near (fin false m e) t = at-most (m * up e * 1) (1 * up (pos 40) * down e) _ (and-l (le (fin false m e) farthest) (le (neg farthest) (fin false m e)) t)
 
-finite-of : (a c : ℕ) (x : Float) → Size a c x → T (finite x)
+pub finite-of : (a c : ℕ) (x : Float) → Size a c x → T (finite x)
 finite-of a c nan p = p
 finite-of a c (inf s) p = p
 finite-of a c (fin s m e) p = tt
@@ -262,13 +261,13 @@ module _ (l : ℕ) (fs : List ℕ) (xs : List Float) (ok : refusal single l fs x
   small-cage = accepted single l fs xs ok .fans .valences
 
   -- the last level
-  last-sound : Sound (facesAt l (length fs / 3)) (last single l fs xs .mesh)
+  pub last-sound : Sound (facesAt l (length fs / 3)) (last single l fs xs .mesh)
   last-sound = rw (mesh-levels single l (first single fs xs)) (sound-level l (length fs / 3) (cage (length xs / 3) fs) (accepted single l fs xs ok .sound))
 
-  last-small : Small 16 (last single l fs xs .mesh)
+  pub last-small : Small 16 (last single l fs xs .mesh)
   last-small = rw (mesh-levels single l (first single fs xs)) (small-level 16 l (length fs / 3) (cage (length xs / 3) fs) (lit≤ tt) (accepted single l fs xs ok .sound) small-cage)
 
-  positions-near : AllNear 30 (positions single (last single l fs xs))
+  pub positions-near : AllNear 30 (positions single (last single l fs xs))
   unfolding positions
   positions-near =
       let a = last single l fs xs in
