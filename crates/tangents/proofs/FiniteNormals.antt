@@ -4,13 +4,13 @@ use Prim.Native.Nat.{ℕ, zero, suc, _+_, _-_, _*_, _/_, _%_, _^_, _≤_, _<_, z
 use native.Mathlib.Nat.{mul-le-mul-right}
 use native.Mathlib.Omega.{arith}
 use native.Mathlib.Decide.{decLt}
-use mathlib.Core.Bool.{Bool, true, false, cond}
+use mathlib.Core.Bool.{Bool, true, false}
 use mathlib.Core.List.{List, [], _∷_, map}
 use mathlib.Core.Option.{none}
 use lib.IntN.{ℤ, pos}
 use lib.Dec.{T, leb, leb→le, nleb→lt, lit≤}
 use lib.ListN.{length, getD, replicate, length-map, length-replicate, getD-replicate, List·getD-eq-default}
-use lib.Ieee.{Float, nan, inf, fin, Format, binary32, binary64, up, down, neg, sub, mul, div, ofInt, ofBits}
+use lib.Ieee.{Float, nan, inf, fin, binary32, binary64, up, down, neg, sub, mul, div, ofInt, ofBits}
 use lib.Ieee.Scale.{finite}
 use lib.Ieee.Fits.{down-pos}
 use Rattle.lists.specs.Lists.{count, gather, part, lastOf}
@@ -28,7 +28,7 @@ use Rattle.rules.proofs.Refine.{Good}
 use Rattle.rules.proofs.Turns.{Turned, round, fringe, turned}
 use Rattle.rules.proofs.Levels.{facesAt, Small}
 use Rattle.faces.proofs.Held.{length-ring}
-use Rattle.turns.specs.Turns.{cosNumber, sinNumber, entry, halfCosine, halfSine, folded, cosine, turned as signed, sine}
+use Rattle.turns.specs.Turns.{entry, halfCosine, halfSine, folded, cosine, turned as signed, sine}
 use Rattle.turns.specs.Table.{place, cosTable, sinTable}
 use Rattle.turns.proofs.Rule.{cos-rule, sin-rule, placed}
 use Rattle.tangents.proofs.Sizes.{Size, round-size, neg-size, add-size, sub-size, mul-size}

@@ -4,30 +4,29 @@ use Prim.Native.Nat.{ℕ, zero, suc, _+_, _-_, _*_, _/_, _%_, _^_, _≤_, _<_, z
 use native.Mathlib.Nat.{le-trans, le-of-eq, le-of-lt, mul-le-mul-left, mul-le-mul-right, div-mul-le-self, div-le-self}
 use native.Mathlib.Omega.{arith}
 use native.Mathlib.Decide.{decLt}
-use mathlib.Core.Bool.{Bool, true, false, _&&_, _||_, cond}
+use mathlib.Core.Bool.{Bool, true, false, _&&_, _||_}
 use mathlib.Core.List.{List, [], _∷_, map}
 use mathlib.Core.Option.{Option, none, some}
 use lib.Dec.{T, leb, ltb, eqb, leb→le, ltb→lt, eqb→eq, lit≤}
 use lib.IntN.{pos}
 use lib.Pow.{pow-add, pow-mono}
 use lib.ListN.{length, getD, replicate, length-map, getD-replicate, List·getD-eq-default}
-use lib.Ieee.{Float, nan, inf, fin, Format, binary32, up, down, neg, add, sub, mul, div, ofInt, le, lt, eq}
+use lib.Ieee.{Float, nan, inf, fin, binary32, up, down, neg, add, sub, mul, div, ofInt, le, lt, eq}
 use lib.Ieee.Fits.{and-l, and-r}
 use lib.Ieee.Scale.{finite}
-use Rattle.lists.specs.Lists.{count, lastOf}
-use Rattle.lists.proofs.Places.{getD-map, getD-count, length-count}
-use Rattle.rules.specs.Mesh.{onward, backward, corner, links, Fan, inner, rim, fan, valence, ring, Mesh, cage, firsts, refined}
+use Rattle.lists.specs.Lists.{count}
+use Rattle.lists.proofs.Places.{getD-map, getD-count}
+use Rattle.rules.specs.Mesh.{onward, backward, corner, links, Fan, inner, rim, fan, valence, ring, Mesh, cage, firsts}
 use Rattle.rules.specs.Position.{Stage, refining, limit, Rule, ringRule, rimRule, f32, weight, ownWeight, onto, farthest, single}
 use Rattle.rules.specs.Levels.{ends, coord, blended, edgeAt, newPositions, limits, Level, first, finer, levels, last, positions}
 use Rattle.rules.specs.Refusals.{refusal}
-use Rattle.rules.proofs.Fans.{T-true}
 use Rattle.rules.proofs.Refine.{Good}
 use Rattle.rules.proofs.Turns.{Turned, round, fringe, turned}
 use Rattle.rules.proofs.Sound.{Sound, sound-refined}
 use Rattle.rules.proofs.Levels.{facesAt, mesh-levels, sound-level, Small, small-refined, small-level}
 use Rattle.rules.proofs.Spokes.{limit-at, length-limits, old-at, new-at, length-new}
-use Rattle.rules.proofs.Cage.{Accepted, accepted}
-use Rattle.tangents.proofs.Sizes.{Size, neg-size, add-size, sub-size, mul-size}
+use Rattle.rules.proofs.Cage.{accepted}
+use Rattle.tangents.proofs.Sizes.{Size, add-size, mul-size}
 use Rattle.tangents.proofs.Valence.{inner-three}
 
 -- ---- sizes in steps of 2 ^ 18
