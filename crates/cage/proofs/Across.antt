@@ -1,19 +1,19 @@
 -- The side across, found along a chain; and what check 8 asks, through the link of a face's side 0. Assumes nothing.
 use mathlib.Core.Path.{_≡_, refl, sym, ap, _∙_}
 use mathlib.Core.Logic.{_≢_}
-use Prim.Native.Nat.{ℕ, zero, suc, _+_, _-_, _*_, _/_, _≤_, _<_}
+use Prim.Native.Nat.{ℕ, _+_, _*_, _/_, _≤_, _<_}
 use native.Mathlib.Omega.{arith}
-use mathlib.Core.Bool.{Bool, true, false, not, _&&_}
+use mathlib.Core.Bool.{Bool, true, false, _&&_}
 use mathlib.Core.List.{List, map}
 use mathlib.Core.Option.{Option, none, some}
-use lib.Dec.{T, T-not, not-T, eqb, ltb, eqb→eq, ltb→lt, lt→ltb}
+use lib.Dec.{T, T-not, eqb, ltb, eqb→eq, ltb→lt, lt→ltb}
 use lib.Ieee.Fits.{and-i, and-l, and-r, eq→eqb}
 use lib.ListN.{length, getD, take, length-map}
 use lib.Seq.{sets, getD-take}
-use Rattle.lists.specs.Lists.{count, find, lowest, found}
+use Rattle.lists.specs.Lists.{count, lowest, found}
 use Rattle.lists.proofs.Places.{length-count, getD-count, getD-map, find-some, lowest-none}
 use Rattle.lists.proofs.Stores.{part-of}
-use Rattle.rules.specs.Mesh.{onward, backward, corner, side, links}
+use Rattle.rules.specs.Mesh.{onward, backward, corner, links}
 use Rattle.rules.specs.Refusals.{has, sameSet}
 use Rattle.rules.proofs.Sides.{length-links, Twins, Unique, twin-some, twin-is}
 use Rattle.rules.proofs.Refine.{Third, third, k0, k1, k2}

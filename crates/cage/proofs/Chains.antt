@@ -1,13 +1,12 @@
 -- Laws of the chains: what is found along one is what a search of all sides finds. Assumes nothing.
 use mathlib.Core.Path.{_≡_, refl, sym, ap, _∙_}
-use Prim.Native.Nat.{ℕ, zero, suc, _+_, _-_, _*_, _/_, _≤_, _<_}
+use Prim.Native.Nat.{ℕ, zero, suc, _+_, _-_, _≤_, _<_}
 use native.Mathlib.Omega.{arith}
 use native.Mathlib.Numerals.{add-one}
-use mathlib.Core.Bool.{Bool, true, false, not, _&&_}
+use mathlib.Core.Bool.{Bool, true, false, not}
 use mathlib.Core.List.{List}
-use mathlib.Core.Option.{Option, none, some}
-use lib.Dec.{T, T-not, not-T, eqb, ltb, eqb→eq}
-use lib.Ieee.Fits.{and-i, and-l, and-r, eq→eqb}
+use mathlib.Core.Option.{Option}
+use lib.Dec.{T, T-not, eqb, ltb}
 use lib.ListN.{length, getD, set, length-set, take, replicate, getD-replicate, length-replicate}
 use lib.Seq.{getD-set-same, getD-set-other, getD-take, length-take-le}
 use borrow.Author.Tests.{eq-eqb, ne-eqb, eqb-true, eqb-false, lt-ltb, le-ltb}
@@ -17,7 +16,7 @@ use Rattle.rules.specs.Mesh.{onward, corner, Side, side, sides}
 use Rattle.rules.specs.Refusals.{same, usedBefore}
 use Rattle.rules.proofs.Sides.{length-sides, getD-sides}
 use Rattle.cage.specs.Chains.{lastBelow, leaves, runs, Heads, Chained}
-use Rattle.cage.proofs.Search.{passed, failed}
+use Rattle.cage.proofs.Search.{failed}
 
 module _ (p : ℕ → Bool) where
   last-le-by : (b : Bool) (k : ℕ) → p k ≡ b → lastBelow p k ≤ k → lastBelow p (suc k) ≤ suc k

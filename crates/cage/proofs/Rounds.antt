@@ -5,11 +5,11 @@ use native.Mathlib.Omega.{arith}
 use native.Mathlib.Numerals.{add-one}
 use mathlib.Core.Bool.{Bool, true, false, not, _&&_}
 use mathlib.Core.List.{List, [], _∷_, _++_, map}
-use mathlib.Core.Option.{Option, none, some}
+use mathlib.Core.Option.{Option}
 use lib.Dec.{T, eqb, ltb}
 use lib.ListN.{length, getD, set, take, replicate, length-map, length-set, length-replicate, getD-replicate}
 use lib.Seq.{ext-getD, getD-take, length-take-le, take-suc, getD-set-same, getD-set-other}
-use borrow.Author.Tests.{eq-eqb, ne-eqb, eqb-true, eqb-false, lt-ltb, le-ltb}
+use borrow.Author.Tests.{ne-eqb, eqb-true, eqb-false, lt-ltb}
 use Rattle.lists.specs.Lists.{pick, count, bit, find, lowest, found, keep, tally, lastOf}
 use Rattle.lists.proofs.Places.{length-count, getD-count, getD-map, keep-suc, lowest-none}
 use Rattle.lists.proofs.Counting.{tally-append}
@@ -25,7 +25,7 @@ use Rattle.cage.specs.Fans.{Tallied, Used, shortOf, lostOf}
 use Rattle.cage.specs.Verdicts.{verdictOf}
 use Rattle.cage.specs.declared.Check.the-variants.{Pass}
 use Rattle.cage.proofs.Search.{passes}
-use Rattle.cage.proofs.Chains.{found-last, eqb-sym, last-more}
+use Rattle.cage.proofs.Chains.{found-last, eqb-sym}
 use Rattle.cage.proofs.Across.{link-coded}
 
 -- ---- starts

@@ -1,6 +1,6 @@
 -- Counts known ahead. Assumes nothing.
 use mathlib.Core.Path.{_≡_, refl, sym, ap, ap₂, _∙_}
-use Prim.Native.Nat.{ℕ, zero, suc, _+_, _-_, _*_, _/_, _^_, _≤_, _<_}
+use Prim.Native.Nat.{ℕ, suc, _+_, _-_, _*_, _/_, _^_, _≤_, _<_}
 use native.Mathlib.Nat.{pow-le-pow-right}
 use native.Mathlib.Omega.{arith}
 use native.Mathlib.Numerals.{add-one}
@@ -9,14 +9,13 @@ use mathlib.Core.List.{List, [], _∷_, _++_, map}
 use mathlib.Core.Option.{Option, none, some}
 use lib.ListN.{length, getD, take}
 use lib.Seq.{take-suc}
-use Rattle.lists.specs.Lists.{bit, found, tally}
+use Rattle.lists.specs.Lists.{bit, found}
 use Rattle.lists.proofs.Counting.{tally-append}
 use Rattle.rules.specs.Mesh.{Mesh, links, rims, firsts, cage}
 use Rattle.rules.specs.Levels.{Sizes, sizes, after, last}
 use Rattle.rules.specs.Position.{Numbers}
 use Rattle.rules.specs.Refusals.{refusal, sizeRefusal}
 use Rattle.rules.specs.Answers.{counted, unless}
-use Rattle.rules.specs.declared.Outcome.{Outcome}
 use Rattle.rules.specs.declared.Outcome.the-variants.{Success}
 use Rattle.rules.specs.declared.Counts.{Counts}
 use Rattle.rules.specs.declared.Refusal.{Refusal}
@@ -25,7 +24,7 @@ use Rattle.rules.proofs.Refine.{Good}
 use Rattle.rules.proofs.Totals.{edges-twice}
 use Rattle.rules.proofs.Levels.{level, mesh-levels, countsOf, counts-level, rims-level}
 use Rattle.faces.specs.Words.{linkOf, linksIn}
-use Rattle.cage.specs.Sizes.{countsAfter, cageCounts, overOf}
+use Rattle.cage.specs.Sizes.{cageCounts, overOf}
 
 -- ---- rim sides
 

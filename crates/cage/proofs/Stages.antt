@@ -1,9 +1,8 @@
 -- What a stage that passes leaves, and how stages follow each other. Assumes nothing.
-use mathlib.Core.Path.{_≡_, refl, sym, ap, _∙_}
+use mathlib.Core.Path.{_≡_, refl, ap, _∙_}
 use mathlib.Core.Logic.{_≢_}
 use Prim.Native.Nat.{ℕ, _*_, _/_, _≤_, _<_}
 use native.Mathlib.Omega.{arith}
-use mathlib.Core.Bool.{Bool}
 use mathlib.Core.List.{List}
 use mathlib.Core.Option.{Option, none, some}
 use lib.Dec.{leb, nleb→lt}
@@ -15,12 +14,12 @@ use Rattle.rules.specs.Refusals.{check, _orElse_, equalCorners, usedBefore, sam
 use Rattle.rules.specs.Answers.{unless}
 use Rattle.rules.specs.declared.Refusal.{Refusal}
 use Rattle.rules.specs.declared.Outcome.{Outcome}
-use Rattle.rules.specs.declared.Outcome.the-variants.{Success, Refused}
+use Rattle.rules.specs.declared.Outcome.the-variants.{Refused}
 use Rattle.rules.proofs.Checks.{Shape, check-none, apart-side, unique-sides, unfolded-sides}
 use Rattle.rules.proofs.Refine.{Good}
 use Rattle.cage.specs.Verdicts.{verdictOf}
 use Rattle.cage.specs.Chains.{Faces, Below, Apart, Once}
-use Rattle.cage.specs.Sizes.{fromNine, fromEight, fromSeven, fromFive, Listed}
+use Rattle.cage.specs.Sizes.{fromNine, fromSeven, fromFive, Listed}
 use Rattle.cage.specs.declared.Check.the-variants.{Pass, No}
 use Rattle.cage.proofs.Search.{passes}
 

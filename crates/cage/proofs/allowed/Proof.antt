@@ -1,12 +1,10 @@
 use mathlib.Core.Bool.{true}
-use mathlib.Core.Path.{_≡_, refl, sym, ap, _∙_}
-use lib.Ieee.{binary32, ofBits, ofInt, le, neg}
+use mathlib.Core.Path.{_≡_, refl}
+use lib.Ieee.{binary32, ofBits, ofInt, le}
 use Rattle.rules.specs.Position.{farthest}
 use Rattle.cage.proofs.Search.{and-left}
 use Rattle.cage.proofs.allowed.Statement.{statement}
 use Rattle.cage.proofs.allowed.Tie as tie
-use Rattle.cage.proofs.allowed.Reads as reads
-use Rattle.cage.proofs.allowed.Lts as lts
 
 bound : ofBits binary32 1400897536 ≡ farthest
 unfolding ofBits ofInt

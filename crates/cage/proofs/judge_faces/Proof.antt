@@ -1,10 +1,9 @@
 use denote.Ref.{now}
-use native.Mathlib.Omega.{arith}
-use Prim.Native.Nat.{ℕ, _+_, _-_, _*_, _/_, _≤_, _<_}
-use mathlib.Core.Path.{_≡_, refl, sym, ap, _∙_}
-use mathlib.Core.List.{List, map}
+use Prim.Native.Nat.{ℕ, _/_}
+use mathlib.Core.Path.{_≡_, sym, ap, _∙_}
+use mathlib.Core.List.{List}
 use mathlib.Core.Option.{Option}
-use lib.ListN.{length, getD, take, replicate}
+use lib.ListN.{length}
 use lib.Dec.{leb}
 use Rattle.lists.specs.Lists.{find, lowest}
 use Rattle.rules.specs.Refusals.{check, _orElse_, equalCorners}
@@ -16,11 +15,6 @@ use Rattle.cage.proofs.Stages.{five-first, below-of, apart-of, unless-n
 use borrow.Author.Needs.{needs}
 use Rattle.cage.proofs.judge_faces.Statement.{statement}
 use Rattle.cage.proofs.judge_faces.Tie as tie
-use Rattle.cage.proofs.judge_faces.Reads as reads
-use Rattle.cage.proofs.judge_faces.Lts as lts
-use Rattle.cage.proofs.judge_sides.Reads as judge-sides-reads
-use Rattle.cage.proofs.list.beyond.Reads as beyond-reads
-use Rattle.cage.proofs.list.flat.Reads as flat-reads
 
 five : (l v : ℕ) (fs : List ℕ) →
     unless (fromFive l v fs) (Success (cageCounts l v fs))

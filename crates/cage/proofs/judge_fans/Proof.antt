@@ -1,21 +1,12 @@
 use denote.Ref.{now}
-use native.Mathlib.Omega.{arith}
-use Prim.Native.Nat.{ℕ, _+_, _-_, _*_, _/_, _≤_, _<_}
-use mathlib.Core.Path.{_≡_, refl, sym, ap, _∙_}
-use mathlib.Core.List.{List, map}
-use mathlib.Core.Option.{Option}
-use lib.ListN.{length, getD, take, replicate}
+use mathlib.Core.Path.{_≡_, sym, _∙_}
+use lib.ListN.{length}
 use Rattle.rules.specs.Refusals.{fanRefusal, sizeRefusal}
 use Rattle.cage.proofs.Rounds.{counted-none}
 use Rattle.cage.proofs.Stages.{below-more, unless-no, unless-goes}
 use borrow.Author.Needs.{needs}
 use Rattle.cage.proofs.judge_fans.Statement.{statement}
 use Rattle.cage.proofs.judge_fans.Tie as tie
-use Rattle.cage.proofs.judge_fans.Reads as reads
-use Rattle.cage.proofs.judge_fans.Lts as lts
-use Rattle.cage.proofs.fans.count_corners.Reads as count-corners-reads
-use Rattle.cage.proofs.fans.fans.Reads as fans-reads
-use Rattle.cage.proofs.judge_size.Reads as judge-size-reads
 
 slice-aggregate-count-corners : tie.Need-slice-aggregate-count-corners
 slice-aggregate-count-corners c = search needs

@@ -1,10 +1,9 @@
 use denote.Ref.{now}
 use native.Mathlib.Omega.{arith}
-use Prim.Native.Nat.{ℕ, _+_, _-_, _*_, _/_, _≤_, _<_}
-use mathlib.Core.Path.{_≡_, refl, sym, ap, _∙_}
-use mathlib.Core.List.{List, map}
-use mathlib.Core.Option.{Option}
-use lib.ListN.{length, getD, take, replicate}
+use Prim.Native.Nat.{_/_}
+use mathlib.Core.Path.{_≡_, sym, _∙_}
+use mathlib.Core.List.{map}
+use lib.ListN.{length, take, replicate}
 use Rattle.lists.specs.Lists.{lowest, found}
 use Rattle.rules.specs.Mesh.{links}
 use Rattle.rules.specs.Refusals.{check, sameSet}
@@ -15,11 +14,6 @@ use Rattle.cage.proofs.Stages.{below-more, listed-of, unless-no, unless
 use borrow.Author.Needs.{needs}
 use Rattle.cage.proofs.judge_links.Statement.{statement}
 use Rattle.cage.proofs.judge_links.Tie as tie
-use Rattle.cage.proofs.judge_links.Reads as reads
-use Rattle.cage.proofs.judge_links.Lts as lts
-use Rattle.cage.proofs.judge_fans.Reads as judge-fans-reads
-use Rattle.cage.proofs.list.doubled.Reads as doubled-reads
-use Rattle.cage.proofs.sides.put_links.Reads as put-links-reads
 
 stored :
     (k : tie.After-put-links) →

@@ -1,10 +1,7 @@
 use denote.Ref.{now}
-use native.Mathlib.Omega.{arith}
-use Prim.Native.Nat.{ℕ, _+_, _-_, _*_, _/_, _≤_, _<_}
-use mathlib.Core.Path.{_≡_, refl, sym, ap, _∙_}
-use mathlib.Core.List.{List, map}
-use mathlib.Core.Option.{Option}
-use lib.ListN.{length, getD, take, replicate}
+use Prim.Native.Nat.{_*_, _/_}
+use mathlib.Core.Path.{_≡_, sym, _∙_}
+use lib.ListN.{length}
 use Rattle.lists.specs.Lists.{lowest}
 use Rattle.rules.specs.Mesh.{sides}
 use Rattle.rules.specs.Refusals.{check, usedBefore}
@@ -14,11 +11,6 @@ use Rattle.cage.proofs.Stages.{below-more, once-of, unless-no, unless-g
 use borrow.Author.Needs.{needs}
 use Rattle.cage.proofs.judge_sides.Statement.{statement}
 use Rattle.cage.proofs.judge_sides.Tie as tie
-use Rattle.cage.proofs.judge_sides.Reads as reads
-use Rattle.cage.proofs.judge_sides.Lts as lts
-use Rattle.cage.proofs.judge_links.Reads as judge-links-reads
-use Rattle.cage.proofs.list.reused.Reads as reused-reads
-use Rattle.cage.proofs.sides.chain.Reads as chain-reads
 
 slice-aggregate-chain : tie.Need-slice-aggregate-chain
 slice-aggregate-chain c = search needs

@@ -1,10 +1,7 @@
 use denote.Ref.{now}
-use native.Mathlib.Omega.{arith}
-use Prim.Native.Nat.{ℕ, _+_, _-_, _*_, _/_, _≤_, _<_}
-use mathlib.Core.Path.{_≡_, refl, sym, ap, _∙_}
-use mathlib.Core.List.{List, map}
-use mathlib.Core.Option.{Option}
-use lib.ListN.{length, getD, take, replicate}
+use Prim.Native.Nat.{_/_}
+use mathlib.Core.Path.{_≡_, sym, _∙_}
+use lib.ListN.{length}
 use Rattle.rules.specs.Position.{single}
 use Rattle.rules.specs.Refusals.{_orElse_, shapeRefusal, rangeRefusal, refusal}
 use Rattle.rules.proofs.Checks.{Shape, shape-of}
@@ -16,11 +13,6 @@ use Rattle.cage.proofs.Stages.{faces-of, coords-few, unless-no, unless-
 use borrow.Author.Needs.{needs}
 use Rattle.cage.proofs.judge_single.Statement.{statement}
 use Rattle.cage.proofs.judge_single.Tie as tie
-use Rattle.cage.proofs.judge_single.Reads as reads
-use Rattle.cage.proofs.judge_single.Lts as lts
-use Rattle.cage.proofs.judge_faces.Reads as judge-faces-reads
-use Rattle.cage.proofs.shape.Reads as shape-reads
-use Rattle.cage.proofs.single_range.Reads as single-range-reads
 
 shaped :
     (k : tie.After-shape) → k .shape .result ≡ Pass →

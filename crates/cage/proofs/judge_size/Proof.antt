@@ -1,12 +1,10 @@
 use denote.Ref.{now}
 use native.Mathlib.Omega.{arith}
-use Prim.Native.Nat.{ℕ, _+_, _-_, _*_, _/_, _≤_, _<_}
-use mathlib.Core.Path.{_≡_, refl, sym, ap, _∙_}
-use mathlib.Core.List.{List, map}
-use mathlib.Core.Option.{Option}
-use lib.ListN.{length, getD, take, replicate}
-use Rattle.rules.specs.Mesh.{links, rims, cage}
-use Rattle.rules.specs.Levels.{Sizes, sizes}
+use Prim.Native.Nat.{ℕ, _+_, _*_, _/_, _≤_}
+use mathlib.Core.Path.{_≡_, sym, ap, _∙_}
+use lib.ListN.{length}
+use Rattle.rules.specs.Mesh.{links, rims}
+use Rattle.rules.specs.Levels.{Sizes}
 use Rattle.rules.specs.Refusals.{sizeRefusal}
 use Rattle.rules.specs.declared.Counts.{Counts}
 use Rattle.rules.specs.declared.Outcome.the-variants.{Success}
@@ -18,11 +16,6 @@ use Rattle.cage.proofs.Stages.{good-of, unless-refused, unless-last}
 use borrow.Author.Needs.{needs}
 use Rattle.cage.proofs.judge_size.Statement.{statement}
 use Rattle.cage.proofs.judge_size.Tie as tie
-use Rattle.cage.proofs.judge_size.Reads as reads
-use Rattle.cage.proofs.judge_size.Lts as lts
-use Rattle.cage.proofs.size.count_rims.Reads as count-rims-reads
-use Rattle.cage.proofs.size.grown.Reads as grown-reads
-use Rattle.cage.proofs.size.size.Reads as size-reads
 
 rims-are : (k : tie.After-count-rims) → k .count-rims .result ≡ rims (links (now (k .before .before .before .args .indices)))
 rims-are k =

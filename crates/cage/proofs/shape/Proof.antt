@@ -1,20 +1,9 @@
-use denote.Ref.{now}
 use borrow.Author.Needs.{needs}
-use borrow.Author.Count.{below-none, below-more}
-use borrow.Author.Tests.{lt-ltb, le-ltb, le-leb, lt-leb, eq-eqb, ne-eqb, not-true, not-false}
-use native.Mathlib.Omega.{arith}
-use Prim.Native.Nat.{ℕ, _+_, _*_, _/_, _-_, _≤_, _<_}
-use mathlib.Core.Path.{_≡_, refl, sym, ap, _∙_}
-use mathlib.Core.Bool.{Bool, true, false}
-use lib.ListN.{length, getD}
-use Rattle.cage.proofs.Search.{find-here, find-nowhere, lowest-here, lowest-nowhere}
+use borrow.Author.Tests.{lt-ltb, le-ltb, eq-eqb, ne-eqb}
 use Rattle.rules.specs.Refusals.{shapeRefusal}
 use borrow.Author.Needs.{needs}
 use Rattle.cage.proofs.shape.Statement.{statement}
 use Rattle.cage.proofs.shape.Tie as tie
-use Rattle.cage.proofs.shape.Reads as reads
-use Rattle.cage.proofs.shape.Lts as lts
-use Rattle.cage.proofs.no.Reads as no-reads
 
 no-requires : tie.Need-no-requires
 no-requires c κs = search needs

@@ -1,20 +1,14 @@
 use denote.Ref.{now}
 use borrow.Author.Needs.{needs}
-use borrow.Author.Count.{below-more}
 use native.Mathlib.Omega.{arith}
-use Prim.Native.Nat.{ℕ, _+_, _-_, _*_, _/_, _≤_, _<_}
-use mathlib.Core.Path.{_≡_, refl, sym, ap, _∙_}
-use mathlib.Core.Bool.{Bool, true, false, not, _&&_}
-use mathlib.Core.List.{List, map}
-use lib.ListN.{length, length-set, getD, set, take}
-use lib.Dec.{eqb, ltb}
+use Prim.Native.Nat.{_-_, _≤_, _<_}
+use mathlib.Core.Path.{_≡_, refl}
+use lib.ListN.{length, length-set}
 use Rattle.rules.specs.Mesh.{corner}
 use Rattle.cage.specs.Fans.{Tallied}
 use Rattle.cage.proofs.Rounds.{counted-few, counted-more}
 use Rattle.cage.proofs.fans.count_corners.Statement.{statement}
 use Rattle.cage.proofs.fans.count_corners.Tie as tie
-use Rattle.cage.proofs.fans.count_corners.Reads as reads
-use Rattle.cage.proofs.fans.count_corners.Lts as lts
 
 abbrev Inv-loop : tie.InvT-loop
 Inv-loop indices counts₀ s₀ counts s = (s ≤ length indices) × (length counts ≡ length counts₀) × Tallied indices s counts

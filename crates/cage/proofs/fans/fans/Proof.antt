@@ -1,5 +1,5 @@
 use denote.Ref.{now}
-use mathlib.Core.Path.{_≡_, sym, _∙_}
+use mathlib.Core.Path.{sym, _∙_}
 use mathlib.Core.Bool.{not}
 use lib.Dec.{eqb}
 use Rattle.lists.specs.Lists.{find, lowest, found}
@@ -10,10 +10,6 @@ use Rattle.cage.proofs.Rounds.{used-of}
 use borrow.Author.Needs.{needs}
 use Rattle.cage.proofs.fans.fans.Statement.{statement}
 use Rattle.cage.proofs.fans.fans.Tie as tie
-use Rattle.cage.proofs.fans.fans.Reads as reads
-use Rattle.cage.proofs.fans.fans.Lts as lts
-use Rattle.cage.proofs.fans.turns.Reads as turns-reads
-use Rattle.cage.proofs.fans.unused.Reads as unused-reads
 
 unused-requires : tie.Need-unused-requires
 unused-requires c κs = search needs

@@ -2,8 +2,6 @@ use borrow.Author.Tests.{eq-eqb, ne-eqb}
 use borrow.Author.Needs.{needs}
 use Rattle.cage.proofs.fans.first.Statement.{statement}
 use Rattle.cage.proofs.fans.first.Tie as tie
-use Rattle.cage.proofs.fans.first.Reads as reads
-use Rattle.cage.proofs.fans.first.Lts as lts
 
 returns : tie.Need-returns
 returns c = rw (c .before .if1 .taken, eq-eqb _ _ (c .if2 .taken))

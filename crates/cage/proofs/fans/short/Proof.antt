@@ -1,8 +1,6 @@
 use borrow.Author.Needs.{needs}
 use Rattle.cage.proofs.fans.short.Statement.{statement}
 use Rattle.cage.proofs.fans.short.Tie as tie
-use Rattle.cage.proofs.fans.short.Reads as reads
-use Rattle.cage.proofs.fans.short.Lts as lts
 
 enum-known-t : tie.Need-enum-known-t
 enum-known-t c = search needs

@@ -1,14 +1,11 @@
 use mathlib.Core.Option.{Option}
 use denote.Ref.{now}
-use borrow.Author.Count.{below-more}
 use native.Mathlib.Omega.{arith}
-use Prim.Native.Nat.{ℕ, _+_, _-_, _*_, _/_, _≤_, _<_}
-use mathlib.Core.Path.{_≡_, refl, sym, ap, _∙_}
-use mathlib.Core.Bool.{Bool, true, false, not, _&&_}
-use mathlib.Core.List.{List, map}
-use lib.ListN.{length, length-set, getD, set, take}
-use lib.Dec.{eqb, ltb}
-use Rattle.rules.specs.Mesh.{links, fan, lastCorner}
+use Prim.Native.Nat.{ℕ, _+_, _*_, _/_}
+use mathlib.Core.Path.{_≡_, sym, ap, _∙_}
+use mathlib.Core.List.{List}
+use lib.ListN.{length}
+use Rattle.rules.specs.Mesh.{links, fan}
 use Rattle.faces.specs.Rings.{turnOf}
 use Rattle.cage.specs.Chains.{leaves, before}
 use Rattle.cage.proofs.Chains.{last-le}
@@ -17,10 +14,6 @@ use Rattle.cage.proofs.Rounds.{links-in, corner-at}
 use borrow.Author.Needs.{needs}
 use Rattle.cage.proofs.fans.turn_at.Statement.{statement}
 use Rattle.cage.proofs.fans.turn_at.Tie as tie
-use Rattle.cage.proofs.fans.turn_at.Reads as reads
-use Rattle.cage.proofs.fans.turn_at.Lts as lts
-use Rattle.cage.proofs.sides.side_of.Reads as side-of-reads
-use Rattle.faces.proofs.turn_round.Reads as turn-round-reads
 
 mul-side-of : tie.Need-mul-side-of
 mul-side-of c = search needs

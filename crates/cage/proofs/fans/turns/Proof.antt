@@ -2,34 +2,25 @@ use denote.Ref.{now}
 use borrow.Author.Needs.{needs}
 use borrow.Author.Count.{below-more}
 use native.Mathlib.Omega.{arith}
-use Prim.Native.Nat.{ℕ, _+_, _-_, _≤_, _<_}
+use Prim.Native.Nat.{ℕ, _-_, _≤_, _<_}
 use mathlib.Core.Path.{_≡_, refl, sym, ap, _∙_}
-use mathlib.Core.Bool.{Bool, true, false, not, _&&_}
-use mathlib.Core.List.{List}
-use mathlib.Core.Option.{Option, none, some}
-use lib.ListN.{length, getD}
+use mathlib.Core.Bool.{Bool, false}
+use mathlib.Core.Option.{some}
+use lib.ListN.{getD}
 use lib.Seq.{take-length}
 use lib.Dec.{eqb, ltb}
 use Rattle.lists.specs.Lists.{lowest, tally}
 use Rattle.turns.specs.Turns.{mostValence}
-use Rattle.rules.specs.Mesh.{links, valence}
+use Rattle.rules.specs.Mesh.{valence}
 use Rattle.rules.specs.Refusals.{check, isEndless, parted, fansOf}
 use Rattle.faces.specs.Rings.{turnOf, valenceOf}
 use Rattle.cage.specs.Verdicts.{verdictOf}
 use Rattle.cage.specs.declared.Check.the-variants.{Pass}
-use Rattle.cage.specs.Fans.{shortOf, lostOf, placeOr}
+use Rattle.cage.specs.Fans.{lostOf, placeOr}
 use Rattle.cage.proofs.Search.{or-stops, or-goes, lowest-here, lowest-nowhere, first-more, placed, unplaced}
 use Rattle.cage.proofs.Rounds.{fan-at, short-is, lost-is, wide-is}
 use Rattle.cage.proofs.fans.turns.Statement.{statement}
 use Rattle.cage.proofs.fans.turns.Tie as tie
-use Rattle.cage.proofs.fans.turns.Reads as reads
-use Rattle.cage.proofs.fans.turns.Lts as lts
-use Rattle.cage.proofs.fans.first.Reads as first-reads
-use Rattle.cage.proofs.fans.lost.Reads as lost-reads
-use Rattle.cage.proofs.fans.short.Reads as short-reads
-use Rattle.cage.proofs.fans.turn_at.Reads as turn-at-reads
-use Rattle.cage.proofs.fans.wide.Reads as wide-reads
-use Rattle.cage.proofs.no.Reads as no-reads
 
 abbrev Inv-loop : tie.InvT-loop
 Inv-loop indices heads counts words v endless₀ crowded₀ u₀ endless crowded u =

@@ -2,21 +2,17 @@ use denote.Ref.{now}
 use borrow.Author.Needs.{needs}
 use borrow.Author.Count.{below-more}
 use native.Mathlib.Omega.{arith}
-use Prim.Native.Nat.{ℕ, _+_, _-_, _*_, _/_, _≤_, _<_}
-use mathlib.Core.Path.{_≡_, refl, sym, ap, _∙_}
-use mathlib.Core.Bool.{Bool, true, false, not, _&&_}
-use mathlib.Core.List.{List, map}
-use lib.ListN.{length, length-set, getD, set, take}
-use lib.Dec.{eqb, ltb}
+use Prim.Native.Nat.{ℕ, _-_, _≤_, _<_}
+use mathlib.Core.Path.{_≡_, sym, ap, _∙_}
+use mathlib.Core.Bool.{false, not}
+use lib.ListN.{getD}
+use lib.Dec.{eqb}
 use borrow.Author.Tests.{eq-eqb, ne-eqb}
 use Rattle.lists.specs.Lists.{find, found}
 use Rattle.cage.proofs.Search.{lowest-here, lowest-nowhere}
 use Rattle.cage.proofs.Rounds.{unused-is}
 use Rattle.cage.proofs.fans.unused.Statement.{statement}
 use Rattle.cage.proofs.fans.unused.Tie as tie
-use Rattle.cage.proofs.fans.unused.Reads as reads
-use Rattle.cage.proofs.fans.unused.Lts as lts
-use Rattle.cage.proofs.no.Reads as no-reads
 
 abbrev Inv-loop : tie.InvT-loop
 Inv-loop indices heads v u₀ u = (u ≤ v) × ((j : ℕ) → j < u → not (found (find (eqb j) indices)) ≡ false)

@@ -3,8 +3,6 @@ use lib.Dec.{leb·suc-suc}
 use borrow.Author.Needs.{needs}
 use Rattle.cage.proofs.fans.wide.Statement.{statement}
 use Rattle.cage.proofs.fans.wide.Tie as tie
-use Rattle.cage.proofs.fans.wide.Reads as reads
-use Rattle.cage.proofs.fans.wide.Lts as lts
 
 enum-known-t : tie.Need-enum-known-t
 enum-known-t c = search needs

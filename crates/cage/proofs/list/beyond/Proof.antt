@@ -1,19 +1,16 @@
 use denote.Ref.{now}
 use borrow.Author.Needs.{needs}
-use borrow.Author.Count.{below-none, below-more}
-use borrow.Author.Tests.{lt-ltb, le-ltb, le-leb, lt-leb, eq-eqb, ne-eqb, not-true, not-false}
+use borrow.Author.Count.{below-more}
+use borrow.Author.Tests.{le-leb, lt-leb}
 use native.Mathlib.Omega.{arith}
-use Prim.Native.Nat.{ℕ, _+_, _*_, _/_, _-_, _≤_, _<_}
-use mathlib.Core.Path.{_≡_, refl, sym, ap, _∙_}
-use mathlib.Core.Bool.{Bool, true, false}
+use Prim.Native.Nat.{ℕ, _-_, _≤_, _<_}
+use mathlib.Core.Path.{_≡_, sym, _∙_}
+use mathlib.Core.Bool.{false}
 use lib.ListN.{length, getD}
-use Rattle.cage.proofs.Search.{find-here, find-nowhere, lowest-here, lowest-nowhere}
+use Rattle.cage.proofs.Search.{find-here, find-nowhere}
 use lib.Dec.{leb}
 use Rattle.cage.proofs.list.beyond.Statement.{statement}
 use Rattle.cage.proofs.list.beyond.Tie as tie
-use Rattle.cage.proofs.list.beyond.Reads as reads
-use Rattle.cage.proofs.list.beyond.Lts as lts
-use Rattle.cage.proofs.no.Reads as no-reads
 
 abbrev Inv-loop : tie.InvT-loop
 Inv-loop indices v i₀ i = (i ≤ length indices) × ((j : ℕ) → j < i → leb v (getD indices j 0) ≡ false)

@@ -2,12 +2,11 @@ use denote.Ref.{now}
 use borrow.Author.Needs.{needs}
 use borrow.Author.Count.{below-more}
 use native.Mathlib.Omega.{arith}
-use Prim.Native.Nat.{ℕ, _+_, _-_, _*_, _/_, _≤_, _<_}
-use mathlib.Core.Path.{_≡_, refl, sym, ap, _∙_}
-use mathlib.Core.Bool.{Bool, false}
-use mathlib.Core.List.{List, map}
-use mathlib.Core.Option.{Option, none}
-use lib.ListN.{length, length-set, getD, set, take}
+use Prim.Native.Nat.{ℕ, _-_, _*_, _/_, _≤_, _<_}
+use mathlib.Core.Path.{_≡_, sym, ap, _∙_}
+use mathlib.Core.Bool.{false}
+use mathlib.Core.Option.{none}
+use lib.ListN.{length, getD}
 use Rattle.lists.specs.Lists.{lowest, found}
 use Rattle.rules.specs.Mesh.{links}
 use Rattle.rules.specs.Refusals.{sameSet}
@@ -17,10 +16,6 @@ use Rattle.cage.proofs.Search.{lowest-here, lowest-nowhere}
 use Rattle.cage.proofs.Across.{link-coded, word-at, word-le, folds-is}
 use Rattle.cage.proofs.list.doubled.Statement.{statement}
 use Rattle.cage.proofs.list.doubled.Tie as tie
-use Rattle.cage.proofs.list.doubled.Reads as reads
-use Rattle.cage.proofs.list.doubled.Lts as lts
-use Rattle.cage.proofs.list.folds_back.Reads as folds-back-reads
-use Rattle.cage.proofs.no.Reads as no-reads
 
 abbrev Inv-loop : tie.InvT-loop
 Inv-loop indices words f₀ f = (f ≤ length indices / 3) × ((j : ℕ) → j < f → found (lowest (sameSet indices j) j) ≡ false)

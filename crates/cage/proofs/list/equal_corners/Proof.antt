@@ -2,8 +2,6 @@ use borrow.Author.Tests.{eq-eqb, ne-eqb}
 use borrow.Author.Needs.{needs}
 use Rattle.cage.proofs.list.equal_corners.Statement.{statement}
 use Rattle.cage.proofs.list.equal_corners.Tie as tie
-use Rattle.cage.proofs.list.equal_corners.Reads as reads
-use Rattle.cage.proofs.list.equal_corners.Lts as lts
 
 mul-a : tie.Need-mul-a
 mul-a c = search needs

@@ -1,20 +1,15 @@
 use denote.Ref.{now}
 use borrow.Author.Needs.{needs}
-use borrow.Author.Count.{below-none, below-more}
-use borrow.Author.Tests.{lt-ltb, le-ltb, le-leb, lt-leb, eq-eqb, ne-eqb, not-true, not-false}
+use borrow.Author.Count.{below-more}
 use native.Mathlib.Omega.{arith}
-use Prim.Native.Nat.{ℕ, _+_, _*_, _/_, _-_, _≤_, _<_}
-use mathlib.Core.Path.{_≡_, refl, sym, ap, _∙_}
-use mathlib.Core.Bool.{Bool, true, false}
-use lib.ListN.{length, getD}
-use Rattle.cage.proofs.Search.{find-here, find-nowhere, lowest-here, lowest-nowhere}
+use Prim.Native.Nat.{ℕ, _/_, _-_, _≤_, _<_}
+use mathlib.Core.Path.{_≡_, sym, _∙_}
+use mathlib.Core.Bool.{false}
+use lib.ListN.{length}
+use Rattle.cage.proofs.Search.{lowest-here, lowest-nowhere}
 use Rattle.rules.specs.Refusals.{equalCorners}
 use Rattle.cage.proofs.list.flat.Statement.{statement}
 use Rattle.cage.proofs.list.flat.Tie as tie
-use Rattle.cage.proofs.list.flat.Reads as reads
-use Rattle.cage.proofs.list.flat.Lts as lts
-use Rattle.cage.proofs.list.equal_corners.Reads as equal-corners-reads
-use Rattle.cage.proofs.no.Reads as no-reads
 
 abbrev Inv-loop : tie.InvT-loop
 Inv-loop indices f₀ f = (f ≤ length indices / 3) × ((j : ℕ) → j < f → equalCorners indices j ≡ false)

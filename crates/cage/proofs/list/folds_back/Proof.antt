@@ -1,7 +1,7 @@
 use denote.Ref.{now}
 use borrow.Author.Tests.{lt-ltb, le-ltb}
 use Prim.Native.Nat.{ℕ, _+_, _*_}
-use mathlib.Core.Path.{_≡_, refl, sym, ap, _∙_}
+use mathlib.Core.Path.{sym, ap, _∙_}
 use lib.Dec.{eqb}
 use Rattle.rules.specs.Mesh.{corner}
 use Rattle.faces.proofs.Links.{link-word}
@@ -9,9 +9,6 @@ use Rattle.cage.specs.Chains.{foldsBack}
 use borrow.Author.Needs.{needs}
 use Rattle.cage.proofs.list.folds_back.Statement.{statement}
 use Rattle.cage.proofs.list.folds_back.Tie as tie
-use Rattle.cage.proofs.list.folds_back.Reads as reads
-use Rattle.cage.proofs.list.folds_back.Lts as lts
-use Rattle.faces.proofs.backward.Reads as backward-reads
 
 returns : tie.Need-returns
 returns c = search needs

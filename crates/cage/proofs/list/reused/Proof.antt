@@ -4,7 +4,7 @@ use borrow.Author.Count.{below-more}
 use borrow.Author.Tests.{lt-ltb, le-ltb}
 use native.Mathlib.Omega.{arith}
 use Prim.Native.Nat.{ℕ, _*_, _/_, _-_, _≤_, _<_}
-use mathlib.Core.Path.{_≡_, refl, sym, ap, _∙_}
+use mathlib.Core.Path.{_≡_, sym, ap, _∙_}
 use mathlib.Core.Bool.{false}
 use lib.ListN.{length, getD}
 use lib.Dec.{ltb}
@@ -15,11 +15,6 @@ use Rattle.cage.proofs.Search.{lowest-here, lowest-nowhere}
 use Rattle.cage.proofs.Chains.{last-le, runs-from, used-is}
 use Rattle.cage.proofs.list.reused.Statement.{statement}
 use Rattle.cage.proofs.list.reused.Tie as tie
-use Rattle.cage.proofs.list.reused.Reads as reads
-use Rattle.cage.proofs.list.reused.Lts as lts
-use Rattle.cage.proofs.sides.end_of.Reads as end-of-reads
-use Rattle.cage.proofs.no.Reads as no-reads
-use Rattle.cage.proofs.sides.seek.Reads as seek-reads
 
 abbrev Inv-loop : tie.InvT-loop
 Inv-loop indices nexts s₀ s = (s ≤ length indices) × ((j : ℕ) → j < s → usedBefore (sides indices) j ≡ false)

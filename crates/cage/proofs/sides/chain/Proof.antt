@@ -1,16 +1,14 @@
 use denote.Ref.{now}
 use borrow.Author.Needs.{needs}
 use native.Mathlib.Omega.{arith}
-use Prim.Native.Nat.{ℕ, _+_, _-_, _≤_, _<_}
-use mathlib.Core.Path.{_≡_, refl, sym, ap, _∙_}
+use Prim.Native.Nat.{_-_, _≤_, _<_}
+use mathlib.Core.Path.{_≡_, refl}
 use lib.ListN.{length, length-set, getD}
-use Rattle.rules.specs.Mesh.{onward, corner}
-use Rattle.cage.specs.Chains.{lastBelow, leaves, runs, Heads, Chained}
+use Rattle.rules.specs.Mesh.{corner}
+use Rattle.cage.specs.Chains.{Heads, Chained}
 use Rattle.cage.proofs.Chains.{heads-more, chained-more}
 use Rattle.cage.proofs.sides.chain.Statement.{statement}
 use Rattle.cage.proofs.sides.chain.Tie as tie
-use Rattle.cage.proofs.sides.chain.Reads as reads
-use Rattle.cage.proofs.sides.chain.Lts as lts
 
 abbrev Inv-loop : tie.InvT-loop
 Inv-loop indices heads₀ nexts₀ s₀ heads nexts s = (s ≤ length indices) × (length heads ≡ length heads₀) × (length nexts ≡ length nexts₀) × Heads indices s heads × Chained indices s nexts

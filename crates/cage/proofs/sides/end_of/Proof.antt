@@ -1,12 +1,9 @@
 use denote.Ref.{now}
-use mathlib.Core.Path.{_≡_, ap}
+use mathlib.Core.Path.{ap}
 use Rattle.rules.specs.Mesh.{corner}
 use borrow.Author.Needs.{needs}
 use Rattle.cage.proofs.sides.end_of.Statement.{statement}
 use Rattle.cage.proofs.sides.end_of.Tie as tie
-use Rattle.cage.proofs.sides.end_of.Reads as reads
-use Rattle.cage.proofs.sides.end_of.Lts as lts
-use Rattle.faces.proofs.onward.Reads as onward-reads
 
 onward-requires : tie.Need-onward-requires
 onward-requires c κs = search needs

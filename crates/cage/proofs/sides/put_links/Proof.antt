@@ -1,26 +1,19 @@
 use denote.Ref.{now}
 use borrow.Author.Needs.{needs}
-use borrow.Author.Count.{below-more}
 use native.Mathlib.Omega.{arith}
-use Prim.Native.Nat.{ℕ, _+_, _-_, _*_, _/_, _≤_, _<_}
+use Prim.Native.Nat.{ℕ, _-_, _≤_, _<_}
 use mathlib.Core.Path.{_≡_, refl, sym, ap, _∙_}
-use mathlib.Core.Bool.{Bool, false}
-use mathlib.Core.List.{List, map}
-use mathlib.Core.Option.{Option, none}
-use lib.ListN.{length, length-set, getD, set, take}
+use mathlib.Core.List.{map}
+use lib.ListN.{length, length-set, getD, take}
 use lib.Seq.{sets, take-length}
 use Rattle.lists.proofs.Stores.{copy-at}
 use Rattle.rules.specs.Mesh.{onward, corner, links}
 use Rattle.faces.specs.Words.{coded}
-use Rattle.cage.specs.Chains.{lastBelow, leaves, runs}
+use Rattle.cage.specs.Chains.{lastBelow, leaves}
 use Rattle.cage.proofs.Chains.{last-le, runs-from}
 use Rattle.cage.proofs.Across.{link-word, length-words, coded-at}
 use Rattle.cage.proofs.sides.put_links.Statement.{statement}
 use Rattle.cage.proofs.sides.put_links.Tie as tie
-use Rattle.cage.proofs.sides.put_links.Reads as reads
-use Rattle.cage.proofs.sides.put_links.Lts as lts
-use Rattle.cage.proofs.sides.end_of.Reads as end-of-reads
-use Rattle.cage.proofs.sides.seek.Reads as seek-reads
 
 abbrev Inv-loop : tie.InvT-loop
 Inv-loop indices heads nexts words₀ at s₀ words s = (s ≤ length indices) × (length words ≡ length words₀) × (words ≡ sets words₀ at (take s (map coded (links indices))))

@@ -1,13 +1,10 @@
 use denote.Ref.{now}
 use borrow.Author.Needs.{needs}
-use borrow.Author.Count.{below-more}
 use native.Mathlib.Omega.{arith}
-use Prim.Native.Nat.{ℕ, _+_, _-_, _*_, _/_, _≤_, _<_}
+use Prim.Native.Nat.{ℕ, _-_, _≤_, _<_}
 use mathlib.Core.Path.{_≡_, refl, sym, ap, _∙_}
-use mathlib.Core.Bool.{Bool, true, false, not, _&&_}
-use mathlib.Core.List.{List, map}
-use lib.ListN.{length, length-set, getD, set, take}
-use lib.Dec.{eqb, ltb}
+use mathlib.Core.List.{map}
+use lib.ListN.{length, length-set, getD, take}
 use lib.ListN.{length-map}
 use lib.Seq.{sets, take-length, length-take-le, getD-take}
 use Rattle.lists.proofs.Places.{getD-map}
@@ -15,9 +12,6 @@ use Rattle.lists.proofs.Stores.{copy-at}
 use Rattle.cage.specs.Chains.{before}
 use Rattle.cage.proofs.sides.put_starts.Statement.{statement}
 use Rattle.cage.proofs.sides.put_starts.Tie as tie
-use Rattle.cage.proofs.sides.put_starts.Reads as reads
-use Rattle.cage.proofs.sides.put_starts.Lts as lts
-use Rattle.cage.proofs.sides.side_of.Reads as side-of-reads
 
 abbrev Inv-loop : tie.InvT-loop
 Inv-loop heads v words₀ at u₀ words u = (u ≤ v) × (length words ≡ length words₀) × (words ≡ sets words₀ at (take u (map before (take v heads))))

@@ -1,20 +1,17 @@
 use denote.Ref.{now}
 use borrow.Author.Needs.{needs}
 use native.Mathlib.Omega.{arith}
-use Prim.Native.Nat.{ℕ, _+_, _-_, _≤_, _<_}
+use Prim.Native.Nat.{ℕ, _-_, _≤_, _<_}
 use mathlib.Core.Path.{_≡_, refl, sym, ap, _∙_}
-use lib.ListN.{length, length-set, getD}
+use lib.ListN.{getD}
 use Rattle.rules.specs.Mesh.{onward, corner}
-use Rattle.cage.specs.Chains.{lastBelow, leaves, runs, Heads, Chained}
+use Rattle.cage.specs.Chains.{lastBelow, leaves, runs}
 use lib.Dec.{eqb}
 use Rattle.lists.specs.Lists.{pick}
 use borrow.Author.Tests.{eq-eqb, ne-eqb, eqb-true}
 use Rattle.cage.proofs.Chains.{last-le, last-is, last-none, runs-turn, runs-next}
 use Rattle.cage.proofs.sides.seek.Statement.{statement}
 use Rattle.cage.proofs.sides.seek.Tie as tie
-use Rattle.cage.proofs.sides.seek.Reads as reads
-use Rattle.cage.proofs.sides.seek.Lts as lts
-use Rattle.cage.proofs.sides.end_of.Reads as end-of-reads
 
 abbrev Inv-loop : tie.InvT-loop
 Inv-loop indices nexts head b h₀ h = (h ≤ head) × (lastBelow (runs indices (corner indices (head - 1)) b) head ≡ lastBelow (runs indices (corner indices (head - 1)) b) h) × (0 < h → corner indices (h - 1) ≡ corner indices (head - 1))

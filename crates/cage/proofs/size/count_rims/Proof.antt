@@ -1,20 +1,16 @@
 use denote.Ref.{now}
 use borrow.Author.Needs.{needs}
 use native.Mathlib.Omega.{arith}
-use Prim.Native.Nat.{ℕ, _+_, _-_, _*_, _/_, _^_, _≤_, _<_}
-use mathlib.Core.Path.{_≡_, refl, sym, ap, ap₂, _∙_}
-use mathlib.Core.Bool.{Bool, true, false, not}
-use mathlib.Core.List.{List, map}
-use lib.ListN.{length, getD, take}
+use Prim.Native.Nat.{ℕ, _-_, _≤_}
+use mathlib.Core.Path.{_≡_, refl, sym, ap, _∙_}
+use mathlib.Core.Bool.{not}
+use lib.ListN.{getD}
 use Rattle.lists.specs.Lists.{found}
 use Rattle.rules.specs.Mesh.{rims}
 use Rattle.faces.specs.Words.{linkOf, linksIn}
 use Rattle.cage.proofs.Sizes.{rim-more, bit-le}
 use Rattle.cage.proofs.size.count_rims.Statement.{statement}
 use Rattle.cage.proofs.size.count_rims.Tie as tie
-use Rattle.cage.proofs.size.count_rims.Reads as reads
-use Rattle.cage.proofs.size.count_rims.Lts as lts
-use Rattle.cage.proofs.size.rim_at.Reads as rim-at-reads
 
 abbrev Inv-loop : tie.InvT-loop
 Inv-loop words n r₀ s₀ r s = (s ≤ n) × (r ≤ s) × (r ≡ rims (linksIn words 0 s))

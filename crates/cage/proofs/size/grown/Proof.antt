@@ -1,19 +1,12 @@
-use denote.Ref.{now}
-use borrow.Author.Needs.{needs}
 use native.Mathlib.Omega.{arith}
-use Prim.Native.Nat.{ℕ, _+_, _-_, _*_, _/_, _^_, _≤_, _<_}
-use mathlib.Core.Path.{_≡_, refl, sym, ap, ap₂, _∙_}
-use mathlib.Core.Bool.{Bool, true, false, not}
-use mathlib.Core.List.{List, map}
-use lib.ListN.{length, getD, take}
+use Prim.Native.Nat.{ℕ, _+_, _-_, _*_, _^_, _≤_}
+use mathlib.Core.Path.{_≡_, sym, ap, ap₂, _∙_}
 use native.Mathlib.Numerals.{add-one}
 use Rattle.rules.specs.Levels.{Sizes, after}
 use Rattle.rules.specs.declared.Counts.{Counts}
 use Rattle.cage.proofs.Sizes.{few-faces, after-more, rims-more}
 use Rattle.cage.proofs.size.grown.Statement.{statement}
 use Rattle.cage.proofs.size.grown.Tie as tie
-use Rattle.cage.proofs.size.grown.Reads as reads
-use Rattle.cage.proofs.size.grown.Lts as lts
 
 abbrev Inv-loop : tie.InvT-loop
 Inv-loop levels v f e r verts₀ faces₀ edges₀ rims₀ i₀ verts faces edges rims i =

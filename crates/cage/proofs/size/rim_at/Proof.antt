@@ -4,8 +4,6 @@ use Rattle.faces.proofs.Links.{link-word}
 use borrow.Author.Needs.{needs}
 use Rattle.cage.proofs.size.rim_at.Statement.{statement}
 use Rattle.cage.proofs.size.rim_at.Tie as tie
-use Rattle.cage.proofs.size.rim_at.Reads as reads
-use Rattle.cage.proofs.size.rim_at.Lts as lts
 
 mul-if1 : tie.Need-mul-if1
 mul-if1 c = search needs

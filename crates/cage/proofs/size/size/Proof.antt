@@ -2,9 +2,6 @@ use borrow.Author.Tests.{lt-ltb, le-ltb}
 use borrow.Author.Needs.{needs}
 use Rattle.cage.proofs.size.size.Statement.{statement}
 use Rattle.cage.proofs.size.size.Tie as tie
-use Rattle.cage.proofs.size.size.Reads as reads
-use Rattle.cage.proofs.size.size.Lts as lts
-use Rattle.cage.proofs.no.Reads as no-reads
 
 no-requires : tie.Need-no-requires
 no-requires c κs = search needs
