@@ -18,6 +18,7 @@ ghost use Rattle.cage.specs.Sizes.{judged, fromNine, fromEight, fromSeve
 use rules::Outcome;
 use rules::Refusal;
 
+pub mod boundary;
 pub mod fans;
 pub mod list;
 pub mod sides;

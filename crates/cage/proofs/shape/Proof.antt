@@ -1,7 +1,6 @@
 use borrow.Author.Needs.{needs}
 use borrow.Author.Tests.{lt-ltb, le-ltb, eq-eqb, ne-eqb}
 use Rattle.rules.specs.Refusals.{shapeRefusal}
-use borrow.Author.Needs.{needs}
 use Rattle.cage.proofs.shape.Statement.{statement}
 use Rattle.cage.proofs.shape.Tie as tie
 
