@@ -2,11 +2,14 @@
 use Prim.Native.Nat.{ℕ, _+_, _*_, _%_}
 use mathlib.Core.Path.{_≡_}
 use mathlib.Core.List.{List, _++_, map}
+use mathlib.Core.Option.{none}
 use lib.Dec.{eqb}
 use lib.ListN.{length, drop}
 use Rattle.lists.specs.Lists.{pick, part}
 use Rattle.rules.specs.Position.{Numbers}
-use Rattle.rules.specs.Levels.{Level}
+use Rattle.rules.specs.Levels.{Level, last}
+use Rattle.rules.specs.Refusals.{refusal}
+use Rattle.rules.specs.Answers.{counted}
 use Rattle.rules.specs.Mesh.{links, cage}
 use Rattle.faces.specs.Words.{coded, Holds}
 
@@ -27,3 +30,16 @@ pub record Held (𝓝 : Numbers) (a : Level 𝓝) (i half third : ℕ) (ws : Lis
 -- the words of a control cage: its faces, their links, its start corners
 abbrev pub loaded : ℕ → List ℕ → List ℕ
 loaded v fs = fs ++ (map coded (links fs) ++ cage v fs .starts)
+
+-- the two parts of the words and of the coordinates, each large enough for the last level: n faces, v vertices
+abbrev pub halfOf : ℕ → ℕ → ℕ
+halfOf n v = 8 * n + 4 * v
+
+abbrev pub thirdOf : ℕ → ℕ
+thirdOf v = 3 * v
+
+-- an accepted cage, and the sizes of its last level
+pub record Planned (𝓝 : Numbers) (l : ℕ) (fs : List ℕ) (xs : List (𝓝 .N)) (n v : ℕ) : Type 0 where
+  pub passes : refusal 𝓝 l fs xs ≡ none
+  pub faces : n ≡ counted (last 𝓝 l fs xs .mesh) .faces
+  pub verts : v ≡ counted (last 𝓝 l fs xs .mesh) .vertices
