@@ -68,7 +68,7 @@ module _ (𝓝 : Numbers) (fs : List ℕ) (xs : List (𝓝 .N)) (l : ℕ) (ok : 
       holds = rw read held;
       sound = rw read (here .sound);
       few = rw read (here .small);
-      small = omega (arith, here .verts, here .most);
+      small = omega (arith, here .verts, here .fewer, here .most);
     }
 
   -- ---- any level but the last

@@ -38,6 +38,10 @@ halfOf n v = 8 * n + 4 * v
 abbrev pub thirdOf : ℕ → ℕ
 thirdOf v = 3 * v
 
+pub record Parts (𝓝 : Numbers) (l : ℕ) (fs : List ℕ) (xs : List (𝓝 .N)) (half third : ℕ) : Type 0 where
+  pub words : half ≡ halfOf (counted (last 𝓝 l fs xs .mesh) .faces) (last 𝓝 l fs xs .mesh .verts)
+  pub coords : third ≡ thirdOf (last 𝓝 l fs xs .mesh .verts)
+
 -- an accepted cage, and the sizes of its last level
 pub record Planned (𝓝 : Numbers) (l : ℕ) (fs : List ℕ) (xs : List (𝓝 .N)) (n v : ℕ) : Type 0 where
   pub passes : refusal 𝓝 l fs xs ≡ none
