@@ -46,11 +46,12 @@ module _ (𝓝 : Numbers) (l : ℕ) (fs : List ℕ) (xs : List (𝓝 .N)) (n v :
 
   pub loads : Faces fs × Below 4096 fs × Once fs × (length xs / 3 ≤ 4096)
   loads =
-      let s = ok 𝓝 l fs xs n v p .shape in
-      (record { thirds = s .indices; few = omega (arith, s .indices, s .faces) },
-      record { each = λ k h. let b = good .below k (omega (arith, small .0)) in omega (arith, s .verts) },
-      record { each = λ a b h k. good .unique a b (omega (arith, small .0)) (omega (arith, small .0)) },
-      s .verts)
+      let s = ok 𝓝 l fs xs n v p .shape in (
+        record { thirds = s .indices; few = omega (arith, s .indices, s .faces) },
+        record { each = λ k h. let b = good .below k (omega (arith, small .0)) in omega (arith, s .verts) },
+        record { each = λ a b h k. good .unique a b (omega (arith, small .0)) (omega (arith, small .0)) },
+        s .verts,
+      )
 
   pub load-room : 2 * length fs + length xs / 3 ≤ 2 * halfOf n v
   load-room = omega (arith, within, small .0)
@@ -64,6 +65,7 @@ module _ (𝓝 : Numbers) (l : ℕ) (fs : List ℕ) (xs : List (𝓝 .N)) (n v :
     }
 
     pub first-kept : Kept (2 * halfOf n v) (sets w 0 (loaded (length xs / 3) fs)) w × Kept (2 * thirdOf v) (sets x 0 xs) x
-    first-kept =
-        (loaded-kept (length xs / 3) (length fs / 3) fs w (small .0) (omega (arith, load-room)) (2 * halfOf n v) load-room,
-        record { long = length-sets x 0 xs; rest = drop-after xs x 0 (2 * thirdOf v) (omega (arith, small .1, within)) })
+    first-kept = (
+      loaded-kept (length xs / 3) (length fs / 3) fs w (small .0) (omega (arith, load-room)) (2 * halfOf n v) load-room,
+      record { long = length-sets x 0 xs; rest = drop-after xs x 0 (2 * thirdOf v) (omega (arith, small .1, within)) },
+    )

@@ -128,7 +128,17 @@ pub fn run(
     room::load_words(indices, coords.len() / 3, words);
     room::copy_coords(coords, work);
     refine(levels, indices, coords, half, third, words, work);
-    finish(levels, indices, coords, nf, nv, &words[..], &work[..], positions, out);
+    finish(
+        levels,
+        indices,
+        coords,
+        nf,
+        nv,
+        &words[..],
+        &work[..],
+        positions,
+        out,
+    );
     room::zero_words(words, 2 * half);
     room::zero_coords(work, 2 * third);
 }

@@ -87,13 +87,18 @@ whole-front-requires : tie.Need-whole-front-requires
 whole-front-requires c κs = search needs
 
 limit-requires : tie.Need-limit-requires
-limit-requires c κs = 
+limit-requires c κs =
     let s = c .before .before .before .before .before .before .before .before .before .before .before .before .before in
-    let f = front (c .before) in
-    (rw (c .before .before .before .before .before .before .before .before .before .start .ensures) (last-movable whole (s .args .levels) (now (s .args .indices)) (now (s .args .coords)) (s .args .nf) (s .args .nv) (s .pre .0) (now (s .args .words)) (s .pre .1 .0 .words)),
-    ((rw f (omega (arith, last-long whole (s .args .levels) (now (s .args .indices)) (now (s .args .coords)) (s .args .nf) (s .args .nv) (s .pre .0) (now (s .args .words)) (now (s .args .work)) (s .pre .1 .0) (s .pre .1 .1 .1 .0))),
-    rw f (near-at (s .args .levels) (s .args .levels) (now (s .args .indices)) (now (s .args .coords)) (s .pre .0 .passes) .0)),
-    s .pre .1 .1 .1 .1 .0))
+    let f = front (c .before) in (
+      rw (c .before .before .before .before .before .before .before .before .before .start .ensures) (last-movable whole (s .args .levels) (now (s .args .indices)) (now (s .args .coords)) (s .args .nf) (s .args .nv) (s .pre .0) (now (s .args .words)) (s .pre .1 .0 .words)),
+      (
+        (
+          rw f (omega (arith, last-long whole (s .args .levels) (now (s .args .indices)) (now (s .args .coords)) (s .args .nf) (s .args .nv) (s .pre .0) (now (s .args .words)) (now (s .args .work)) (s .pre .1 .0) (s .pre .1 .1 .1 .0))),
+          rw f (near-at (s .args .levels) (s .args .levels) (now (s .args .indices)) (now (s .args .coords)) (s .pre .0 .passes) .0),
+        ),
+        s .pre .1 .1 .1 .1 .0,
+      ),
+    )
 
 same-length : tie.Need-same-length
 same-length c = search needs
@@ -105,12 +110,13 @@ returns : tie.Need-returns
 returns c =
     let s = c .before .before .before .before .before .before .before .before .before .before .before .before .before .before .before in
     let w = now (s .args .words) in
-    let t = c .before .before .before .before .before .before .before .before .before .before .before .start .ensures in
-    (c .before .limit .ensures ∙ ap (λ (zs : List ℤ). sets (now (s .args .positions)) 0 zs)
-    (ap (λ (at : ℕ). limits whole (meshIn w at (s .args .nf) (s .args .nv)) (links (part at (3 * s .args .nf) w)) (now (c .before .before .before .whole-front .result))) t
-    ∙ last-limits whole (s .args .levels) (now (s .args .indices)) (now (s .args .coords)) (s .args .nf) (s .args .nv) (s .pre .0) w (s .pre .1 .0 .words) (now (c .before .before .before .whole-front .result)) (front (c .before .before .before))),
-    c .before .before .before .before .before .before .before .before .copy-words .ensures ∙ ap (λ (zs : List ℕ). sets (now (s .args .out)) 0 zs)
-    (lent-is w (c .before .before .before .before .before .before .before .before .before .before .before .start .result) (3 * s .args .nf) ∙ ap (λ (at : ℕ). part at (3 * s .args .nf) w) t ∙ last-faces whole (s .args .levels) (now (s .args .indices)) (now (s .args .coords)) (s .args .nf) (s .args .nv) (s .pre .0) w (s .pre .1 .0 .words)))
+    let t = c .before .before .before .before .before .before .before .before .before .before .before .start .ensures in (
+      c .before .limit .ensures ∙ ap (λ (zs : List ℤ). sets (now (s .args .positions)) 0 zs)
+          (ap (λ (at : ℕ). limits whole (meshIn w at (s .args .nf) (s .args .nv)) (links (part at (3 * s .args .nf) w)) (now (c .before .before .before .whole-front .result))) t
+          ∙ last-limits whole (s .args .levels) (now (s .args .indices)) (now (s .args .coords)) (s .args .nf) (s .args .nv) (s .pre .0) w (s .pre .1 .0 .words) (now (c .before .before .before .whole-front .result)) (front (c .before .before .before))),
+      c .before .before .before .before .before .before .before .before .copy-words .ensures ∙ ap (λ (zs : List ℕ). sets (now (s .args .out)) 0 zs)
+          (lent-is w (c .before .before .before .before .before .before .before .before .before .before .before .start .result) (3 * s .args .nf) ∙ ap (λ (at : ℕ). part at (3 * s .args .nf) w) t ∙ last-faces whole (s .args .levels) (now (s .args .indices)) (now (s .args .coords)) (s .args .nf) (s .args .nv) (s .pre .0) w (s .pre .1 .0 .words)),
+    )
 
 pub finish-spec : {M : Type 1} → statement M
 finish-spec =

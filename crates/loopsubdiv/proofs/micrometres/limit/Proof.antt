@@ -38,20 +38,21 @@ loop-less : tie.Need-loop-less Inv-loop μ-loop
 loop-less c = omega arith
 
 loop-again : tie.Need-loop-again Inv-loop μ-loop
-loop-again c = 
+loop-again c =
     let s = c .before .before .before .before .before .before .before in
     let l = c .before .before .before .before .before .loop in
-    let e = c .before .put .ensures in
-    (omega arith,
-    ap length e ∙ simp length-sets (l .inv .1),
-    limit-more whole (now (s .args .words)) (s .args .at) (s .args .nf) (s .args .nv) (now (s .args .xs)) (now (s .args .out)) (l .out) _ (lowered (c .before .before .before .limit-at .result)) (l .u) (omega arith)
-    (l .inv .2) e (c .before .before .before .limit-at .ensures .0))
+    let e = c .before .put .ensures in (
+      omega arith,
+      ap length e ∙ simp length-sets (l .inv .1),
+      limit-more whole (now (s .args .words)) (s .args .at) (s .args .nf) (s .args .nv) (now (s .args .xs)) (now (s .args .out)) (l .out) _ (lowered (c .before .before .before .limit-at .result)) (l .u) (omega arith)
+          (l .inv .2) e (c .before .before .before .limit-at .ensures .0),
+    )
 
 same-length : tie.Need-same-length Inv-loop μ-loop
 same-length c = search needs
 
 returns : tie.Need-returns Inv-loop μ-loop
-returns c = 
+returns c =
     let s = c .before .before .before in
     let l = c .before .loop in
     limits-are whole (now (s .args .words)) (s .args .at) (s .args .nf) (s .args .nv) (now (s .args .xs)) (now (s .args .out)) (l .out) (l .u) (omega arith) (l .inv .2)

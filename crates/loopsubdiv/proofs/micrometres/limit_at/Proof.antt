@@ -39,16 +39,17 @@ cast-t14 : tie.Need-cast-t14
 cast-t14 c = search needs
 
 vertex-requires : tie.Need-vertex-requires
-vertex-requires c κs = 
+vertex-requires c κs =
     let s = c .before .before .before in
     old-whole (now (s .args .words)) (s .args .at) (s .args .nf) (s .args .nv) (s .pre .0 .0) (s .args .u) (s .pre .0 .1) (c .one-ring .result) (c .one-ring .ensures) (s .pre .1 .0) (s .pre .1 .1)
 
 returns : tie.Need-returns
-returns c = 
-    let s = c .before .before .before .before in
-    (limit-is whole (now (s .args .words)) (s .args .at) (s .args .nf) (s .args .nv) (now (s .args .xs)) (s .pre .0 .0) (s .args .u) (s .pre .0 .1) (c .before .one-ring .result) (c .before .one-ring .ensures)
-    (lowered (c .vertex .result)) (c .vertex .ensures .0),
-    c .vertex .ensures .1)
+returns c =
+    let s = c .before .before .before .before in (
+      limit-is whole (now (s .args .words)) (s .args .at) (s .args .nf) (s .args .nv) (now (s .args .xs)) (s .pre .0 .0) (s .args .u) (s .pre .0 .1) (c .before .one-ring .result) (c .before .one-ring .ensures)
+          (lowered (c .vertex .result)) (c .vertex .ensures .0),
+      c .vertex .ensures .1,
+    )
 
 pub limit-at-spec : {M : Type 1} → statement M
 limit-at-spec =

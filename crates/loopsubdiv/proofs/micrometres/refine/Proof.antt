@@ -39,15 +39,18 @@ start-requires-4 : tie.Need-start-requires-4 Inv-loop μ-loop
 start-requires-4 c κs = omega arith
 
 refine-points-requires : tie.Need-refine-points-requires Inv-loop μ-loop
-refine-points-requires c κs = 
+refine-points-requires c κs =
     let s = c .before .before .before .before .before .before .before .before .before .before in
-    let l = c .before .before .before .before .before .before .before .loop in
-    (going-movable whole (s .args .levels) (now (s .args .indices)) (now (s .args .coords)) (s .args .half) (s .args .third) (now (s .args .words)) (now (s .args .work)) (s .pre .0) (s .pre .1 .0) (s .pre .1 .1 .1 .0) (s .pre .1 .1 .1 .1) (l .i) (l .nf) (l .nv) (l .words) (l .work) (l .inv) (omega arith) (c .before .before .before .before .before .start .result) (c .before .before .before .before .start2 .result) (c .before .before .before .start3 .result) (c .before .before .start4 .result) (c .before .before .before .before .before .start .ensures) (c .before .before .before .before .start2 .ensures) (c .before .before .before .start3 .ensures) (c .before .before .start4 .ensures),
-    (going-placed whole (s .args .levels) (now (s .args .indices)) (now (s .args .coords)) (s .args .half) (s .args .third) (now (s .args .words)) (now (s .args .work)) (s .pre .0) (s .pre .1 .0) (s .pre .1 .1 .1 .0) (s .pre .1 .1 .1 .1) (l .i) (l .nf) (l .nv) (l .words) (l .work) (l .inv) (omega arith) (c .before .before .before .before .before .start .result) (c .before .before .before .before .start2 .result) (c .before .before .before .start3 .result) (c .before .before .start4 .result) (c .before .before .before .before .before .start .ensures) (c .before .before .before .before .start2 .ensures) (c .before .before .before .start3 .ensures) (c .before .before .start4 .ensures),
-    rw (going-coords whole (s .args .levels) (now (s .args .indices)) (now (s .args .coords)) (s .args .half) (s .args .third) (now (s .args .words)) (now (s .args .work)) (s .pre .0) (s .pre .1 .0) (s .pre .1 .1 .1 .0) (s .pre .1 .1 .1 .1) (l .i) (l .nf) (l .nv) (l .words) (l .work) (l .inv) (omega arith) (c .before .before .before .before .before .start .result) (c .before .before .before .before .start2 .result) (c .before .before .before .start3 .result) (c .before .before .start4 .result) (c .before .before .before .before .before .start .ensures) (c .before .before .before .before .start2 .ensures) (c .before .before .before .start3 .ensures) (c .before .before .start4 .ensures)) (near-at (s .args .levels) (l .i) (now (s .args .indices)) (now (s .args .coords)) (s .pre .0) .0)))
+    let l = c .before .before .before .before .before .before .before .loop in (
+      going-movable whole (s .args .levels) (now (s .args .indices)) (now (s .args .coords)) (s .args .half) (s .args .third) (now (s .args .words)) (now (s .args .work)) (s .pre .0) (s .pre .1 .0) (s .pre .1 .1 .1 .0) (s .pre .1 .1 .1 .1) (l .i) (l .nf) (l .nv) (l .words) (l .work) (l .inv) (omega arith) (c .before .before .before .before .before .start .result) (c .before .before .before .before .start2 .result) (c .before .before .before .start3 .result) (c .before .before .start4 .result) (c .before .before .before .before .before .start .ensures) (c .before .before .before .before .start2 .ensures) (c .before .before .before .start3 .ensures) (c .before .before .start4 .ensures),
+      (
+        going-placed whole (s .args .levels) (now (s .args .indices)) (now (s .args .coords)) (s .args .half) (s .args .third) (now (s .args .words)) (now (s .args .work)) (s .pre .0) (s .pre .1 .0) (s .pre .1 .1 .1 .0) (s .pre .1 .1 .1 .1) (l .i) (l .nf) (l .nv) (l .words) (l .work) (l .inv) (omega arith) (c .before .before .before .before .before .start .result) (c .before .before .before .before .start2 .result) (c .before .before .before .start3 .result) (c .before .before .start4 .result) (c .before .before .before .before .before .start .ensures) (c .before .before .before .before .start2 .ensures) (c .before .before .before .start3 .ensures) (c .before .before .start4 .ensures),
+        rw (going-coords whole (s .args .levels) (now (s .args .indices)) (now (s .args .coords)) (s .args .half) (s .args .third) (now (s .args .words)) (now (s .args .work)) (s .pre .0) (s .pre .1 .0) (s .pre .1 .1 .1 .0) (s .pre .1 .1 .1 .1) (l .i) (l .nf) (l .nv) (l .words) (l .work) (l .inv) (omega arith) (c .before .before .before .before .before .start .result) (c .before .before .before .before .start2 .result) (c .before .before .before .start3 .result) (c .before .before .start4 .result) (c .before .before .before .before .before .start .ensures) (c .before .before .before .before .start2 .ensures) (c .before .before .before .start3 .ensures) (c .before .before .start4 .ensures)) (near-at (s .args .levels) (l .i) (now (s .args .indices)) (now (s .args .coords)) (s .pre .0) .0),
+      ),
+    )
 
 refine-words-requires : tie.Need-refine-words-requires Inv-loop μ-loop
-refine-words-requires c κs = 
+refine-words-requires c κs =
     let s = c .before .before .before .before .before .before .before .before .before .before .before .before .before in
     let l = c .before .before .before .before .before .before .before .before .before .before .loop in
     going-ready whole (s .args .levels) (now (s .args .indices)) (now (s .args .coords)) (s .args .half) (s .args .third) (now (s .args .words)) (now (s .args .work)) (s .pre .0) (s .pre .1 .0) (s .pre .1 .1 .1 .0) (s .pre .1 .1 .1 .1) (l .i) (l .nf) (l .nv) (l .words) (l .work) (l .inv) (omega arith) (c .before .before .before .before .before .before .before .before .start .result) (c .before .before .before .before .before .before .before .start2 .result) (c .before .before .before .before .before .before .start3 .result) (c .before .before .before .before .before .start4 .result) (c .before .before .before .before .before .before .before .before .start .ensures) (c .before .before .before .before .before .before .before .start2 .ensures) (c .before .before .before .before .before .before .start3 .ensures) (c .before .before .before .before .before .start4 .ensures)
@@ -84,12 +87,13 @@ same-length-2 : tie.Need-same-length-2 Inv-loop μ-loop
 same-length-2 c = let l = c .before .loop in l .inv .work .long
 
 returns : tie.Need-returns Inv-loop μ-loop
-returns c = 
+returns c =
     let s = c .before .before .before .before in
     let l = c .before .loop in
-    let e : l .i ≡ s .args .levels = (let k = l .inv .bound in omega arith) in
-    (subst (λ (i : ℕ). Held whole (last whole i (now (s .args .indices)) (now (s .args .coords))) i (s .args .half) (s .args .third) (l .words) (l .work)) e (l .inv .held),
-    (l .inv .words, l .inv .work))
+    let e : l .i ≡ s .args .levels = (let k = l .inv .bound in omega arith) in (
+      subst (λ (i : ℕ). Held whole (last whole i (now (s .args .indices)) (now (s .args .coords))) i (s .args .half) (s .args .third) (l .words) (l .work)) e (l .inv .held),
+      (l .inv .words, l .inv .work),
+    )
 
 pub refine-spec : {M : Type 1} → statement M
 refine-spec =

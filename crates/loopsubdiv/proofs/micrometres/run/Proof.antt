@@ -1,82 +1,101 @@
 use borrow.Author.Needs.{needs}
+use denote.Ref.{now}
+use native.Mathlib.Omega.{arith}
+use Prim.Native.Nat.{_*_, _+_, _≤_}
+use mathlib.Core.Path.{_∙_}
+use lib.ListN.{length}
+use lib.Seq.{length-sets}
+use Rattle.rules.specs.Position.{whole}
+use Rattle.rules.specs.Levels.{last}
+use Rattle.loopsubdiv.specs.Held.{halfOf, thirdOf, Kept, Held}
+use Rattle.loopsubdiv.proofs.Held.{kept-then}
+use Rattle.loopsubdiv.proofs.First.{clear-kept, parts-are, within, small, loads, load-room, first-held, first-kept}
+use lib.IntN.{pos}
 use Rattle.loopsubdiv.proofs.micrometres.run.Statement.{statement}
 use Rattle.loopsubdiv.proofs.micrometres.run.Tie as tie
-use Rattle.loopsubdiv.proofs.micrometres.run.Reads as reads
-use Rattle.loopsubdiv.proofs.micrometres.run.Lts as lts
-use Rattle.loopsubdiv.proofs.micrometres.finish.Reads as finish-reads
-use Rattle.loopsubdiv.proofs.micrometres.refine.Reads as refine-reads
-use Rattle.loopsubdiv.proofs.room.copy_coords.Reads as copy-coords-reads
-use Rattle.loopsubdiv.proofs.room.load_words.Reads as load-words-reads
-use Rattle.loopsubdiv.proofs.room.zero_coords.Reads as zero-coords-reads
-use Rattle.loopsubdiv.proofs.room.zero_words.Reads as zero-words-reads
 
--- src/micrometres.rt:126:16
+-- level 0 is held, and nothing past the needed lengths has changed
+started : (k : tie.After-copy-coords) →
+    (let s = k .before .before .before .before .before .before .before .before .before in
+    Held whole (last whole 0 (now (s .args .indices)) (now (s .args .coords))) 0 (halfOf (s .args .nf) (s .args .nv)) (thirdOf (s .args .nv)) (k .before .before .before .before .load-words .last .1 .1 .0) (k .copy-coords .last .1 .0)
+    × Kept (2 * halfOf (s .args .nf) (s .args .nv)) (k .before .before .before .before .load-words .last .1 .1 .0) (now (s .args .words)) × Kept (2 * thirdOf (s .args .nv)) (k .copy-coords .last .1 .0) (now (s .args .work)))
+started k =
+    let s = k .before .before .before .before .before .before .before .before .before in
+    let f = first-kept whole (s .args .levels) (now (s .args .indices)) (now (s .args .coords)) (s .args .nf) (s .args .nv) (s .pre .0) (now (s .args .words)) (now (s .args .work)) (s .pre .1 .0) (s .pre .1 .1 .0) in
+    rw (k .before .before .before .before .load-words .ensures, k .copy-coords .ensures)
+    (first-held whole (s .args .levels) (now (s .args .indices)) (now (s .args .coords)) (s .args .nf) (s .args .nv) (s .pre .0) (now (s .args .words)) (now (s .args .work)) (s .pre .1 .0) (s .pre .1 .1 .0), f .0, f .1)
+
+-- and so after the levels
+kept : (k : tie.After-refine) → (let s = k .before .before .before .before .before .before .before .before .before .before .before .before .before in Kept (2 * halfOf (s .args .nf) (s .args .nv)) (k .refine .last .1 .1 .1 .1 .1 .0) (now (s .args .words)) × Kept (2 * thirdOf (s .args .nv)) (k .refine .last .1 .1 .1 .1 .1 .1 .0) (now (s .args .work)))
+kept k = let f = started (k .before .before .before .before) in (kept-then (k .refine .ensures .1 .0) (f .1), kept-then (k .refine .ensures .1 .1) (f .2))
+
 mul-half : tie.Need-mul-half
 mul-half c = search needs
 
--- src/micrometres.rt:126:25
 mul-half-2 : tie.Need-mul-half-2
 mul-half-2 c = search needs
 
--- src/micrometres.rt:126:16
 add-half : tie.Need-add-half
 add-half c = search needs
 
--- src/micrometres.rt:127:17
 mul-third : tie.Need-mul-third
 mul-third c = search needs
 
--- src/micrometres.rt:128:5
 load-words-requires : tie.Need-load-words-requires
-load-words-requires c κs = ?
+load-words-requires c κs = let s = c .before .before .before .before in (loads whole (s .args .levels) (now (s .args .indices)) (now (s .args .coords)) (s .args .nf) (s .args .nv) (s .pre .0), omega (arith, load-room whole (s .args .levels) (now (s .args .indices)) (now (s .args .coords)) (s .args .nf) (s .args .nv) (s .pre .0), s .pre .1 .0))
 
--- src/micrometres.rt:129:5
 copy-coords-requires : tie.Need-copy-coords-requires
-copy-coords-requires c κs = ?
+copy-coords-requires c κs = let s = c .before .before .before .before .before .before .before .before in omega (arith, small whole (s .args .levels) (now (s .args .indices)) (now (s .args .coords)) (s .args .nf) (s .args .nv) (s .pre .0) .1, within whole (s .args .levels) (now (s .args .indices)) (now (s .args .coords)) (s .args .nf) (s .args .nv) (s .pre .0), s .pre .1 .1 .0)
 
--- src/micrometres.rt:130:5
 refine-requires : tie.Need-refine-requires
-refine-requires c κs = ?
+refine-requires c κs =
+    let s = c .before .before .before .before .before .before .before .before .before .before .before .before in
+    let f = started (c .before .before .before) in
+    (s .pre .0 .passes, (parts-are whole (s .args .levels) (now (s .args .indices)) (now (s .args .coords)) (s .args .nf) (s .args .nv) (s .pre .0), (f .0, (omega (arith, f .1 .long, s .pre .1 .0), omega (arith, f .2 .long, s .pre .1 .1 .0)))))
 
--- src/micrometres.rt:131:5
 finish-requires : tie.Need-finish-requires
-finish-requires c κs = ?
+finish-requires c κs =
+    let s = c .before .before .before .before .before .before .before .before .before .before .before .before .before .before .before .before .before .before .before .before in
+    let f = kept (c .before .before .before .before .before .before .before) in
+    (s .pre .0, (c .before .before .before .before .before .before .before .refine .ensures .0, (omega (arith, f .0 .long, s .pre .1 .0), (omega (arith, f .1 .long, s .pre .1 .1 .0), s .pre .1 .1 .1))))
 
--- src/micrometres.rt:132:29
 mul-zero-words : tie.Need-mul-zero-words
-mul-zero-words c = ?
+mul-zero-words c = let s = c .before .before .before .before .before .before .before .before .before .before .before .before .before .before .before .before .before .before .before .before .before .before .before .before .before in omega (arith, s .pre .1 .0)
 
--- src/micrometres.rt:132:5
 zero-words-requires : tie.Need-zero-words-requires
-zero-words-requires c κs = ?
+zero-words-requires c κs = let s = c .before .before .before .before .before .before .before .before .before .before .before .before .before .before .before .before .before .before .before .before .before .before .before .before .before in let f = kept (c .before .before .before .before .before .before .before .before .before .before .before .before) in omega (arith, f .0 .long, s .pre .1 .0)
 
--- src/micrometres.rt:133:29
 mul-zero-coords : tie.Need-mul-zero-coords
-mul-zero-coords c = ?
+mul-zero-coords c = let s = c .before .before .before .before .before .before .before .before .before .before .before .before .before .before .before .before .before .before .before .before .before .before .before .before .before .before .before .before .before in omega (arith, s .pre .1 .1 .0)
 
--- src/micrometres.rt:133:5
 zero-coords-requires : tie.Need-zero-coords-requires
-zero-coords-requires c κs = ?
+zero-coords-requires c κs = let s = c .before .before .before .before .before .before .before .before .before .before .before .before .before .before .before .before .before .before .before .before .before .before .before .before .before .before .before .before .before in let f = kept (c .before .before .before .before .before .before .before .before .before .before .before .before .before .before .before .before) in omega (arith, f .1 .long, s .pre .1 .1 .0)
 
--- src/micrometres.rt:108:1
 same-length : tie.Need-same-length
 same-length c = search needs
 
--- src/micrometres.rt:108:1
 same-length-2 : tie.Need-same-length-2
 same-length-2 c = search needs
 
--- src/micrometres.rt:108:1
 same-length-3 : tie.Need-same-length-3
 same-length-3 c = search needs
 
--- src/micrometres.rt:108:1
 same-length-4 : tie.Need-same-length-4
 same-length-4 c = search needs
 
--- src/micrometres.rt:108:1
 returns : tie.Need-returns
-returns c = ?
+returns c =
+    let s = c .before .before .before .before .before .before .before .before .before .before .before .before .before .before .before .before .before .before .before .before .before .before .before .before .before .before .before .before .before .before .before in
+    let f = kept (c .before .before .before .before .before .before .before .before .before .before .before .before .before .before .before .before .before .before) in (
+      c .before .before .before .before .before .before .before .before .before .before .finish .ensures .0,
+      (
+        c .before .before .before .before .before .before .before .before .before .before .finish .ensures .1,
+        (
+          c .before .before .before .before .before .zero-words .ensures ∙ clear-kept 0 (2 * halfOf (s .args .nf) (s .args .nv)) _ (now (s .args .words)) (f .0),
+          c .before .zero-coords .ensures ∙ clear-kept (pos 0) (2 * thirdOf (s .args .nv)) _ (now (s .args .work)) (f .1),
+        ),
+      ),
+    )
 
 pub run-spec : {M : Type 1} → statement M
 run-spec =
