@@ -1,20 +1,19 @@
 -- Level 0 in the work buffers: what loading it asks, and that it is held; and that clearing at the end undoes it all. For both kinds of number. Assumes nothing.
-use mathlib.Core.Path.{_≡_, refl, sym, ap, _∙_}
-use Prim.Native.Nat.{ℕ, _+_, _*_, _/_, _%_, _≤_, _<_}
+use mathlib.Core.Path.{_≡_, refl, ap}
+use Prim.Native.Nat.{ℕ, _+_, _*_, _/_, _≤_}
 use native.Mathlib.Omega.{arith}
 use mathlib.Core.List.{List, _++_}
-use lib.ListN.{length, replicate, drop}
+use lib.ListN.{length, replicate}
 use lib.Seq.{sets, length-sets}
-use Rattle.lists.specs.Lists.{part, cleared}
+use Rattle.lists.specs.Lists.{cleared}
 use Rattle.lists.proofs.Stores.{part-of, drop-after}
 use Rattle.rules.specs.Mesh.{cage}
 use Rattle.rules.specs.Position.{Numbers}
-use Rattle.rules.specs.Levels.{Level, first, last, levels}
+use Rattle.rules.specs.Levels.{last, levels}
 use Rattle.rules.proofs.Refine.{Good}
-use Rattle.rules.proofs.Cage.{Accepted}
 use Rattle.cage.specs.Chains.{Faces, Below, Once}
-use Rattle.loopsubdiv.specs.Held.{startOf, halfOf, thirdOf, Kept, Held, Parts, Planned, loaded}
-use Rattle.loopsubdiv.proofs.Sizes.{facesOf, vertsOf, fits}
+use Rattle.loopsubdiv.specs.Held.{halfOf, thirdOf, Kept, Held, Parts, Planned, loaded}
+use Rattle.loopsubdiv.proofs.Sizes.{vertsOf, fits}
 use Rattle.loopsubdiv.proofs.Loaded.{loaded-held, loaded-kept}
 use Rattle.loopsubdiv.proofs.Last.{ok, faces-are}
 

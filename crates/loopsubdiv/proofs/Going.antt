@@ -10,9 +10,8 @@ use lib.Seq.{sets}
 use Rattle.lists.specs.Lists.{part}
 use Rattle.rules.specs.Mesh.{links, firsts, cage}
 use Rattle.rules.specs.Position.{Numbers}
-use Rattle.rules.specs.Levels.{Level, first, last, levels, newPositions}
+use Rattle.rules.specs.Levels.{last, levels, newPositions}
 use Rattle.rules.specs.Refusals.{refusal}
-use Rattle.rules.proofs.Levels.{facesAt}
 use Rattle.rules.proofs.Growth.{faces-more}
 use Rattle.rules.proofs.Cage.{Accepted, accepted}
 use Rattle.levels.specs.Level.{meshIn, Ready, Grown}

@@ -1,22 +1,19 @@
 -- The work buffers from level to level: what one level asks of them, and what it leaves in them. Assumes nothing.
 use mathlib.Core.Path.{_≡_, refl, sym, ap, ap₂, _∙_, subst}
-use mathlib.Core.Logic.{_⊎_, ⊎-elim, inl, inr}
-use Prim.Native.Nat.{ℕ, zero, suc, _+_, _-_, _*_, _/_, _%_, _≤_, _<_}
+use mathlib.Core.Logic.{inl, inr}
+use Prim.Native.Nat.{ℕ, _+_, _*_, _%_, _≤_, _<_}
 use native.Mathlib.Omega.{arith}
 use mathlib.Core.Bool.{Bool, true, false}
 use mathlib.Core.List.{List}
-use mathlib.Core.Option.{Option}
 use lib.Dec.{eqb}
 use lib.ListN.{length, drop}
 use lib.Seq.{sets, length-sets}
 use borrow.Author.Tests.{eq-eqb, ne-eqb, eqb-true, eqb-false}
-use Rattle.lists.specs.Lists.{pick, part}
+use Rattle.lists.specs.Lists.{part}
 use Rattle.lists.proofs.Stores.{part-of, drop-after}
 use Rattle.rules.specs.Mesh.{links, Mesh, firsts, refined}
 use Rattle.rules.specs.Position.{Numbers}
-use Rattle.rules.specs.Levels.{Level, first, levels, finer, newPositions}
-use Rattle.rules.proofs.Sound.{Sound}
-use Rattle.rules.proofs.Levels.{facesAt}
+use Rattle.rules.specs.Levels.{Level, first, finer, newPositions}
 use Rattle.rules.proofs.Growth.{levels-more}
 use Rattle.rules.proofs.Spokes.{length-new}
 use Rattle.rules.proofs.Cage.{Accepted}

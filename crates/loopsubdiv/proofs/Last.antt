@@ -1,24 +1,24 @@
 -- The last level in the work buffers, and what goes out of it; for both kinds of number. Assumes nothing.
 use mathlib.Core.Path.{_≡_, sym, ap, ap₂, _∙_}
-use Prim.Native.Nat.{ℕ, _+_, _-_, _*_, _/_, _%_, _≤_}
+use Prim.Native.Nat.{ℕ, _+_, _-_, _*_, _%_, _≤_}
 use native.Mathlib.Omega.{arith}
 use native.Mathlib.Nat.{le-refl}
 use mathlib.Core.Bool.{Bool, true, false}
 use mathlib.Core.List.{List}
 use lib.Dec.{eqb}
 use lib.ListN.{length, take, drop}
-use lib.Seq.{sets, take-take}
+use lib.Seq.{take-take}
 use Rattle.lists.specs.Lists.{pick, part}
 use Rattle.lists.proofs.Stores.{length-part}
 use Rattle.rules.specs.Mesh.{links, Mesh}
 use Rattle.rules.specs.Position.{Numbers}
-use Rattle.rules.specs.Levels.{Level, first, last, levels, limits, positions}
+use Rattle.rules.specs.Levels.{last, limits, positions}
 use Rattle.rules.proofs.Cage.{Accepted, accepted}
 use Rattle.faces.specs.Words.{Holds}
 use Rattle.levels.specs.Level.{meshIn}
 use Rattle.levels.specs.Moves.{Movable}
 use Rattle.loopsubdiv.specs.Held.{startOf, halfOf, thirdOf, Held, Planned}
-use Rattle.loopsubdiv.proofs.Sizes.{facesOf, levelAt, vertsOf, Fits, fits}
+use Rattle.loopsubdiv.proofs.Sizes.{facesOf, vertsOf, Fits, fits}
 use Rattle.loopsubdiv.proofs.Held.{Sides, left, right, sides, movable, read}
 
 -- the front that is read is the part that holds the level

@@ -1,6 +1,6 @@
 -- The limit of a mesh that stands in the words: a vertex by its ring, and one vertex more of a loop; for both kinds of number. Assumes nothing.
 use mathlib.Core.Path.{_≡_, refl, ap, _∙_}
-use Prim.Native.Nat.{ℕ, _+_, _*_, _≤_, _<_}
+use Prim.Native.Nat.{ℕ, _+_, _*_, _<_}
 use native.Mathlib.Omega.{arith}
 use mathlib.Core.List.{List}
 use lib.ListN.{length, getD}
@@ -15,7 +15,7 @@ use Rattle.faces.specs.Rings.{ringOf}
 use Rattle.faces.specs.declared.Ring.{Ring}
 use Rattle.faces.proofs.Held.{start-ring}
 use Rattle.weights.specs.Lent.{byRing}
-use Rattle.weights.proofs.Joins.{ringAt, moved-by}
+use Rattle.weights.proofs.Joins.{moved-by}
 use Rattle.levels.specs.Level.{meshIn}
 use Rattle.levels.specs.Moves.{Movable}
 

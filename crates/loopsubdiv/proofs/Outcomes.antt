@@ -1,13 +1,11 @@
 -- What an outcome says: which refusal it is, or that there is none and every buffer is long enough. Assumes nothing.
-use mathlib.Core.Path.{_≡_, refl, _∙_}
+use mathlib.Core.Path.{_≡_, refl}
 use Prim.Native.Nat.{ℕ, _+_, _*_, _≤_}
 use native.Mathlib.Omega.{arith}
-use mathlib.Core.Bool.{Bool, true, false}
-use mathlib.Core.List.{List, [], _∷_}
+use mathlib.Core.List.{List}
 use mathlib.Core.Option.{Option, none, some}
 use lib.Dec.{ltb}
 use borrow.Author.Tests.{ltb-false}
-use Rattle.lists.specs.Lists.{pick}
 use Rattle.lists.proofs.Places.{skip}
 use Rattle.rules.specs.Position.{Numbers}
 use Rattle.rules.specs.Levels.{last}

@@ -1,34 +1,29 @@
 use borrow.Author.Needs.{needs}
+use denote.Ref.{now}
+use mathlib.Core.Path.{sym, _∙_}
+use Rattle.rules.specs.Position.{whole}
+use Rattle.rules.specs.Answers.{wholeRooms}
+use Rattle.loopsubdiv.proofs.Outcomes.{then-refused, then-room}
 use Rattle.loopsubdiv.proofs.judge_whole.Statement.{statement}
 use Rattle.loopsubdiv.proofs.judge_whole.Tie as tie
-use Rattle.loopsubdiv.proofs.judge_whole.Reads as reads
-use Rattle.loopsubdiv.proofs.judge_whole.Lts as lts
-use Rattle.cage.proofs.judge_whole.Reads as judge-whole-reads
-use Rattle.loopsubdiv.proofs.room.whole_room.Reads as whole-room-reads
 
--- src/lib.rt:28:11
 judge-whole-requires : tie.Need-judge-whole-requires
 judge-whole-requires c κs = search needs
 
--- src/lib.rt:29:26
 enum-known-x : tie.Need-enum-known-x
 enum-known-x c = search needs
 
--- src/lib.rt:30:26
 enum-known-c : tie.Need-enum-known-c
 enum-known-c c = search needs
 
--- src/lib.rt:30:32
 whole-room-requires : tie.Need-whole-room-requires
 whole-room-requires c κs = search needs
 
--- src/lib.rt:17:1
 returns : tie.Need-returns
-returns c = ?
+returns c = let s = c .before .before .before .before .before in sym (then-refused whole (wholeRooms (s .args .positions) (s .args .out) (s .args .words) (s .args .work)) (s .args .levels) (now (s .args .indices)) (now (s .args .coords)) _ (sym (c .before .before .before .judge-whole .ensures) ∙ c .before .x .given .1))
 
--- src/lib.rt:17:1
 returns-2 : tie.Need-returns-2
-returns-2 c = ?
+returns-2 c = let s = c .before .before .before .before .before .before in c .whole-room .ensures ∙ sym (then-room whole (wholeRooms (s .args .positions) (s .args .out) (s .args .words) (s .args .work)) (s .args .levels) (now (s .args .indices)) (now (s .args .coords)) _ (sym (c .before .before .before .before .judge-whole .ensures) ∙ c .before .before .c .given .1))
 
 pub judge-whole-spec : {M : Type 1} → statement M
 judge-whole-spec =

@@ -1,58 +1,69 @@
 use borrow.Author.Needs.{needs}
+use denote.Ref.{now}
+use native.Mathlib.Omega.{arith}
+use Prim.Native.Nat.{ℕ, _+_, _*_}
+use mathlib.Core.Path.{_≡_, refl, sym, ap, _∙_}
+use lib.ListN.{length}
+use lib.IntN.{pos}
+use Rattle.lists.specs.Lists.{cleared}
+use Rattle.rules.specs.Position.{whole}
+use Rattle.rules.specs.Answers.{wholeRooms}
+use Rattle.rules.specs.declared.Counts.{Counts}
+use Rattle.loopsubdiv.specs.Held.{halfOf}
+use Rattle.loopsubdiv.proofs.Outcomes.{done, whole-room}
 use Rattle.loopsubdiv.proofs.loop_subdivide_whole.Statement.{statement}
 use Rattle.loopsubdiv.proofs.loop_subdivide_whole.Tie as tie
-use Rattle.loopsubdiv.proofs.loop_subdivide_whole.Reads as reads
-use Rattle.loopsubdiv.proofs.loop_subdivide_whole.Lts as lts
-use Rattle.loopsubdiv.proofs.judge_whole.Reads as judge-whole-reads
-use Rattle.loopsubdiv.proofs.micrometres.run.Reads as run-reads
 
--- src/lib.rt:50:9
 judge-whole-requires : tie.Need-judge-whole-requires
 judge-whole-requires c κs = search needs
 
--- src/lib.rt:60:32
 enum-told : tie.Need-enum-told
 enum-told c = search needs
 
--- src/lib.rt:61:26
 enum-known-o : tie.Need-enum-known-o
 enum-known-o c = search needs
 
--- src/lib.rt:62:22
 cast-nf : tie.Need-cast-nf
 cast-nf c = search needs
 
--- src/lib.rt:63:22
 cast-nv : tie.Need-cast-nv
 cast-nv c = search needs
 
--- src/lib.rt:64:13
 run-requires : tie.Need-run-requires
-run-requires c κs = ?
+run-requires c κs =
+    let s = c .before .before .before .before .before .before .before .before .before .before .before .before .before in
+    let x = c .before .before .before .before .before .before .before .o .given .0 .0 in
+    let d = done whole (wholeRooms (length (now (s .args .positions))) (length (now (s .args .out))) (length (now (s .args .words))) (length (now (s .args .work)))) (s .args .levels) (now (s .args .indices)) (now (s .args .coords)) x (sym (c .before .before .before .before .before .before .before .before .before .judge-whole .ensures) ∙ c .before .before .before .before .before .before .before .o .given .1) in
+    let r = whole-room (length (now (s .args .positions))) (length (now (s .args .out))) (length (now (s .args .words))) (length (now (s .args .work))) x (d .room) in (
+      record { passes = d .passes; faces = sym (ap (λ (k : Counts). k .faces) (d .counts)); verts = sym (ap (λ (k : Counts). k .vertices) (d .counts)) },
+      (omega (arith, r .words), (omega (arith, r .coords), (r .positions, r .indices))),
+    )
 
--- src/lib.rt:35:1
 returns : tie.Need-returns
-returns c = ?
+returns c = (c .before .before .judge-whole .ensures, rw (c .enum-told .given .1) (refl, (refl, (refl, refl))))
 
--- src/lib.rt:35:1
 same-length : tie.Need-same-length
 same-length c = search needs
 
--- src/lib.rt:35:1
 same-length-2 : tie.Need-same-length-2
 same-length-2 c = search needs
 
--- src/lib.rt:35:1
 same-length-3 : tie.Need-same-length-3
 same-length-3 c = search needs
 
--- src/lib.rt:35:1
 same-length-4 : tie.Need-same-length-4
 same-length-4 c = search needs
 
--- src/lib.rt:35:1
 returns-2 : tie.Need-returns-2
-returns-2 c = ?
+returns-2 c =
+    let s = c .before .before .before .before .before .before .before .before .before .before .before .before .before .before .before .before .before .before .before .before in
+    let k = c .before .before .before .before .before .before .before .before .before .before .before .before .before .before .o .given .0 .0 in
+    let r = c .before .before .before .before .before .before .run .ensures in
+    let e : 2 * halfOf (k .faces) (k .vertices) ≡ 16 * k .faces + 8 * k .vertices = omega arith in
+    let f : 2 * (3 * k .vertices) ≡ 6 * k .vertices = omega arith in (
+      sym (c .before .before .before .before .before .before .before .before .before .before .before .before .before .before .o .given .1) ∙ c .before .before .before .before .before .before .before .before .before .before .before .before .before .before .before .before .judge-whole .ensures,
+      (r .0, (r .1 .0, (r .1 .1 .0 ∙ ap (λ (n : ℕ). cleared 0 n (now (s .args .words))) e, r .1 .1 .1 ∙ ap (λ (n : ℕ). cleared (pos 0) n (now (s .args .work))) f))),
+    )
 
 pub loop-subdivide-whole-spec : {M : Type 1} → statement M
 loop-subdivide-whole-spec =

@@ -1,10 +1,8 @@
 use borrow.Author.Needs.{needs}
 use denote.Ref.{now}
 use native.Mathlib.Omega.{arith}
-use Prim.Native.Nat.{_*_, _+_, _≤_}
+use Prim.Native.Nat.{_*_}
 use mathlib.Core.Path.{_∙_}
-use lib.ListN.{length}
-use lib.Seq.{length-sets}
 use Rattle.rules.specs.Position.{whole}
 use Rattle.rules.specs.Levels.{last}
 use Rattle.loopsubdiv.specs.Held.{halfOf, thirdOf, Kept, Held}
