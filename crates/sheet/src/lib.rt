@@ -1,4 +1,4 @@
-// Sheets: 01, "Sheets and limits". The reader hands back each block as that stretch of the lent bytes.
+// Sheets: 01, "Sheets and limits". The reader hands back each block as that stretch of the lent bytes; the whole engine runs on a sheet of any length.
 
 ghost use mathlib.Core.Path.{_≡_};
 ghost use Prim.Native.Nat.{ℕ, _+_, _*_, _≤_, _<_};
@@ -7,6 +7,10 @@ ghost use lib.Seq.{sets};
 ghost use Rattle.rules.specs.Sheets.{wordAt, wordsOf, coordsOf, vertexBlock, faceBlock};
 ghost use Rattle.rules.specs.Sheets.{signed as signedOf};
 ghost use Rattle.sheet.specs.Reading.{sheetOf, vertexBytes, faceBytes};
+ghost use Rattle.sheet.specs.Calls.{Subdivided, lent};
+use cage::Check;
+use rules::Outcome;
+use rules::Refusal;
 
 // What the trailer says, or refusal 15.
 pub enum Sheet {
@@ -134,5 +138,66 @@ fn coords_from(b: &[u8], n: usize, s: &mut [i32])
 {
     for k in 0..n {
         s[k] = coord_at(b, 4 * k);
+    }
+}
+
+// The whole engine on the lists of a sheet, which checks 1 and 3 keep within local arrays.
+fn subdivide_lists(
+    bytes: &[u8],
+    vertices: usize,
+    faces: usize,
+    levels: u32,
+    positions: &mut [i32],
+    out: &mut [u32],
+    words: &mut [u32],
+    work: &mut [i32],
+) -> Outcome
+    requires { ⌜ (vertices ≤ 4096) × ((faces ≤ 4096) × (sheetOf (now bytes) ≡ Sheet.Is vertices faces levels)) ⌝ }
+    ensures { λ r. ⌜ Subdivided (now (bytes .entry)) (lent (now (positions .entry)) (now (positions .exit))) (lent (now (out .entry)) (now (out .exit))) (lent (now (words .entry)) (now (words .exit))) (lent (now (work .entry)) (now (work .exit))) r ⌝ }
+{
+    let nc = 3 * vertices;
+    let mut coords = [0i32; 12288];
+    coords_from(vertex_block(bytes), nc, &mut coords);
+    let nw = 3 * faces;
+    let mut indices = [0u32; 12288];
+    words_from(face_block(bytes), nw, &mut indices);
+    loopsubdiv::loop_subdivide_whole(
+        levels,
+        &indices[..nw],
+        &coords[..nc],
+        positions,
+        out,
+        words,
+        work,
+    )
+}
+
+// The whole engine on a sheet of any length. 15, 1 and 3 need the trailer alone; 2 cannot occur.
+pub fn subdivide_sheet(
+    bytes: &[u8],
+    positions: &mut [i32],
+    out: &mut [u32],
+    words: &mut [u32],
+    work: &mut [i32],
+) -> Outcome
+    ensures { λ r. ⌜ Subdivided (now (bytes .entry)) (lent (now (positions .entry)) (now (positions .exit))) (lent (now (out .entry)) (now (out .exit))) (lent (now (words .entry)) (now (words .exit))) (lent (now (work .entry)) (now (work .exit))) r ⌝ }
+{
+    match read_sheet(bytes) {
+        Sheet::Refused => Outcome::Refused(Refusal {
+            number: 15,
+            place: 0,
+        }),
+        Sheet::Is {
+            vertices,
+            faces,
+            levels,
+        } => {
+            let nv = vertices as usize;
+            let nf = faces as usize;
+            match cage::shape(levels, 3 * nf, 3 * nv) {
+                Check::No(r) => Outcome::Refused(r),
+                Check::Pass => subdivide_lists(bytes, nv, nf, levels, positions, out, words, work),
+            }
+        }
     }
 }
