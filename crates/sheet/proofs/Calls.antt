@@ -14,17 +14,17 @@ use Rattle.lists.proofs.Stores.{length-rows, length-part, part-of}
 use Rattle.rules.specs.Position.{whole}
 use Rattle.rules.specs.Mesh.{cage}
 use Rattle.rules.specs.Levels.{first, positions as positionsOf}
-use Rattle.rules.specs.Refusals.{Room, check, when, shortOf, _orElse_, shapeRefusal, refusal}
+use Rattle.rules.specs.Refusals.{Room, check, when, shortOf, shapeRefusal, refusal}
 use Rattle.rules.specs.Answers.{unless, counted, outcome}
 use Rattle.rules.specs.Sheets.{wordAt, signed, badSheet, sheetVerts, sheetFaces, sheetLevels, vertexBlock, faceBlock, sheetIndices, sheetCoords, sheetOutcome}
 use Rattle.rules.specs.declared.Counts.{Counts}
 use Rattle.rules.specs.declared.Refusal.{Refusal}
 use Rattle.rules.specs.declared.Outcome.{Outcome}
 use Rattle.rules.specs.declared.Outcome.the-variants.{Success, Refused}
-use Rattle.rules.proofs.Checks.{check-none, or-none}
 use Rattle.rules.proofs.Cage.{accepted}
 use Rattle.rules.proofs.Levels.{sound-level, mesh-levels}
 use Rattle.rules.proofs.Spokes.{length-positions}
+use Rattle.loopsubdiv.proofs.Outcomes.{done as answered}
 use Rattle.sheet.specs.Reading.{sheetOf}
 use Rattle.sheet.specs.Calls.{Lent, sheetLast, Subdivided}
 use Rattle.sheet.specs.declared.Sheet.the-variants as sheet
@@ -102,9 +102,6 @@ unless-none : (o : Option Refusal) (x : Outcome) (c : Counts) → unless o x ≡
 unless-none none x c e = (refl, e)
 unless-none (some r) x c e = absurd (let z : _≡_ {A = ℕ} 0 1 = cc in omega arith)
 
-same-counts : (c d : Counts) → Success c ≡ Success d → c ≡ d
-same-counts c d e = cc
-
 pub record Done (rooms : Counts → List Room) (b : List ℕ) (c : Counts) : Type 0 where
   pub counts : c ≡ counted (sheetLast b .mesh)
   pub room : shortOf (rooms c) ≡ none
@@ -112,23 +109,21 @@ pub record Done (rooms : Counts → List Room) (b : List ℕ) (c : Counts) : Typ
   pub faces : length (sheetLast b .mesh .faces) ≡ 3 * c .faces
 
 pub done : (rooms : Counts → List Room) (b : List ℕ) (c : Counts) → sheetOutcome rooms b ≡ Success c → Done rooms b c
-unfolding sheetOutcome outcome
+unfolding sheetOutcome
 done rooms b c e =
     let fs = sheetIndices b in
     let xs = sheetCoords b in
     let l = sheetLevels b in
     let m = sheetLast b .mesh in
-    let p = unless-none (check 15 (when (badSheet b))) _ c e in
-    let q = unless-none (refusal whole l fs xs orElse check 14 (shortOf (rooms (counted m)))) (Success (counted m)) c (p .1) in
-    let r = or-none (refusal whole l fs xs) (check 14 (shortOf (rooms (counted m)))) (q .0) in
-    let k : counted m ≡ c = same-counts (counted m) c (q .1) in
+    let o = answered whole rooms l fs xs c (unless-none (check 15 (when (badSheet b))) _ c e .1) in
+    let k = o .counts in
     let v = length xs / 3 in
-    let ok = accepted whole l fs xs (r .0) in
+    let ok = accepted whole l fs xs (o .passes) in
     let s = rw (← (mesh-levels whole l (first whole fs xs))) at (sound-level l (length fs / 3) (cage v fs) (ok .sound)) in
     let f : length (m .faces) ≡ 3 * (length (m .faces) / 3) = omega (arith, s .good .size) in
     record {
       counts = sym k;
-      room = rw k at (check-none 14 (shortOf (rooms (counted m))) (r .1));
+      room = o .room;
       positions = length-positions whole (sheetLast b) ∙ ap (λ (d : Counts). 3 * d .vertices) k;
       faces = f ∙ ap (λ (d : Counts). 3 * d .faces) k;
     }
