@@ -1,0 +1,146 @@
+-- What the promises say together: one outcome for each call, an answer to every call, nothing written by a refusal, the counts of the last level, and demand 3 of the
+-- numbers that stand in the positions buffer. Assumes nothing.
+use mathlib.Core.Path.{_≡_, refl, sym, ap, _∙_}
+use Prim.Native.Nat.{ℕ, _+_, _*_, _/_, _^_, _<_, _≤_}
+use native.Mathlib.Omega.{arith}
+use mathlib.Core.List.{List}
+use lib.IntN.{ℤ, pos}
+use lib.ListN.{length, getD, take}
+use lib.Seq.{sets}
+use lib.Ieee.{Float}
+use Rattle.lists.proofs.Stores.{part-of, getD-within}
+use Rattle.whole.specs.Fraction.{Within}
+use Rattle.rules.specs.Mesh.{Mesh, links, rims, cage}
+use Rattle.rules.specs.Position.{Numbers, whole, single, exact}
+use Rattle.rules.specs.Levels.{coord, first, last, positions, exactLimits, Sizes, sizes, after}
+use Rattle.rules.specs.Answers.{outcome, wholeRooms, written, zeroed, workWords, workCoords}
+use Rattle.rules.specs.Refusals.{Room}
+use Rattle.rules.specs.declared.Refusal.{Refusal}
+use Rattle.rules.specs.declared.Counts.{Counts}
+use Rattle.rules.specs.declared.Outcome.{Outcome}
+use Rattle.rules.specs.declared.Outcome.the-variants.{Success, Refused}
+use Rattle.rules.proofs.Bound.{demand-3}
+use Rattle.rules.proofs.Cage.{accepted}
+use Rattle.rules.proofs.Sound.{Sound}
+use Rattle.rules.proofs.Levels.{level, sound-level, mesh-levels, counts-level, rims-level}
+use Rattle.rules.proofs.Related.{same-mesh}
+use Rattle.rules.proofs.Spokes.{length-positions}
+use Rattle.loopsubdiv.proofs.Outcomes.{Done, done, WholeRoom, whole-room}
+use Rattle.promises.specs.Calls.{Buffers, WholeCall}
+
+same : {N : Type 0} {a b : Buffers N} → a .positions ≡ b .positions → a .indices ≡ b .indices → a .words ≡ b .words → a .work ≡ b .work → a ≡ b
+same {N} {a} {b} p i w k =
+    ap {B = Buffers N} (λ z. record { positions = z; indices = a .indices; words = a .words; work = a .work }) p
+    ∙ ap {B = Buffers N} (λ z. record { positions = b .positions; indices = z; words = a .words; work = a .work }) i
+    ∙ ap {B = Buffers N} (λ z. record { positions = b .positions; indices = b .indices; words = z; work = a .work }) w
+    ∙ ap {B = Buffers N} (λ z. record { positions = b .positions; indices = b .indices; words = b .words; work = z }) k
+
+-- ---- a call that succeeds, of either engine
+
+module _ (𝓝 : Numbers) (rooms : Counts → List Room) (l : ℕ) (fs : List ℕ) (xs : List (𝓝 .N)) (c : Counts) (told : Done 𝓝 rooms l fs xs c) where
+  abbrev control : Mesh
+  control = cage (length xs / 3) fs
+
+  sound : Sound (length fs / 3) control
+  sound = accepted 𝓝 l fs xs (told .passes) .sound
+
+  mesh-is : last 𝓝 l fs xs .mesh ≡ level l control
+  mesh-is = mesh-levels 𝓝 l (first 𝓝 fs xs)
+
+  pub positions-long : length (positions 𝓝 (last 𝓝 l fs xs)) ≡ 3 * c .vertices
+  positions-long = length-positions 𝓝 (last 𝓝 l fs xs) ∙ ap (λ (k : Counts). 3 * k .vertices) (told .counts)
+
+  pub faces-long : length (last 𝓝 l fs xs .mesh .faces) ≡ 3 * c .faces
+  faces-long =
+      let a = ap (λ (m : Mesh). length (m .faces)) mesh-is ∙ sound-level l (length fs / 3) control sound .good .size in
+      let b = ap (λ (k : Counts). k .faces) (told .counts) in
+      omega (arith, a, b)
+
+  -- with E edges one level gives V + E vertices, 4 F faces and 2 E + 3 F edges; and it halves each rim side
+  pub counts-are : c .vertices ≡ after l (sizes control) .verts × (c .faces ≡ after l (sizes control) .faces × c .rims ≡ 2 ^ l * rims (links fs))
+  unfolding cage
+  counts-are =
+      let z = counts-level l (length fs / 3) control sound in (
+        sym (ap (λ (k : Counts). k .vertices) (told .counts)) ∙ ap (λ (m : Mesh). m .verts) mesh-is ∙ ap (λ (n : Sizes). n .verts) z,
+        (
+          sym (ap (λ (k : Counts). k .faces) (told .counts)) ∙ ap (λ (m : Mesh). length (m .faces) / 3) mesh-is ∙ ap (λ (n : Sizes). n .faces) z,
+          sym (ap (λ (k : Counts). k .rims) (told .counts)) ∙ ap (λ (m : Mesh). rims (links (m .faces))) mesh-is ∙ rims-level l (length fs / 3) control sound,
+        ),
+      )
+
+-- an entry of what is written at the front of a buffer that has room for it
+stands : {A : Type 0} (front old : List A) (n i : ℕ) (d : A) → length front ≡ n → n ≤ length old → i < n → getD (sets old 0 front) i d ≡ getD front i d
+stands front old n i d e h k = let z : 0 + i ≡ i = omega arith in rw z at (getD-within front old 0 i d (omega arith) (omega arith))
+
+-- ---- the whole call
+
+module _ (l : ℕ) (fs : List ℕ) (xs : List ℤ) (lent : Buffers ℤ) where
+  abbrev rooms : Counts → List Room
+  rooms = wholeRooms (length (lent .positions)) (length (lent .indices)) (length (lent .words)) (length (lent .work))
+
+  -- two outcomes that are allowed are one
+  pub one-outcome : (r q : Outcome) (left other : Buffers ℤ) → WholeCall l fs xs lent r left → WholeCall l fs xs lent q other → (r ≡ q) × (left ≡ other)
+  one-outcome r q left other c d =
+      let e : r ≡ q = c .answer ∙ sym (d .answer) in (
+        e,
+        same
+            (c .positions ∙ ap {B = List ℤ} (λ o. written o (positions whole (last whole l fs xs)) (lent .positions)) e ∙ sym (d .positions))
+            (c .indices ∙ ap {B = List ℕ} (λ o. written o (last whole l fs xs .mesh .faces) (lent .indices)) e ∙ sym (d .indices))
+            (c .words ∙ ap {B = List ℕ} (λ o. zeroed o 0 workWords (lent .words)) e ∙ sym (d .words))
+            (c .work ∙ ap {B = List ℤ} (λ o. zeroed o (pos 0) workCoords (lent .work)) e ∙ sym (d .work)),
+      )
+
+  -- a refusal writes nothing
+  pub refusal-writes-nothing : (r : Refusal) (left : Buffers ℤ) → WholeCall l fs xs lent (Refused r) left → left ≡ lent
+  refusal-writes-nothing r left c = same (c .positions) (c .indices) (c .words) (c .work)
+
+  -- every call has an outcome that is allowed
+  pub record Answered : Type 0 where
+    pub answer : Outcome
+    pub left : Buffers ℤ
+    pub call : WholeCall l fs xs lent answer left
+
+  pub every-call-answers : Answered
+  every-call-answers =
+      let r = outcome whole rooms l fs xs in
+      record {
+        answer = r;
+        left = record {
+          positions = written r (positions whole (last whole l fs xs)) (lent .positions);
+          indices = written r (last whole l fs xs .mesh .faces) (lent .indices);
+          words = zeroed r 0 workWords (lent .words);
+          work = zeroed r (pos 0) workCoords (lent .work);
+        };
+        call = record { answer = refl; positions = refl; indices = refl; words = refl; work = refl };
+      }
+
+  module _ (c : Counts) (left : Buffers ℤ) (call : WholeCall l fs xs lent (Success c) left) where
+    told : Done whole rooms l fs xs c
+    told = done whole rooms l fs xs c (sym (call .answer))
+
+    room : WholeRoom (length (lent .positions)) (length (lent .indices)) (length (lent .words)) (length (lent .work)) c
+    room = whole-room (length (lent .positions)) (length (lent .indices)) (length (lent .words)) (length (lent .work)) c (told .room)
+
+    -- demand 3: coordinate k of vertex v, as it stands in the buffer, is within (l + 1) / 2 of the exact limit position at l levels
+    pub demand-3-of-the-call : (v k : ℕ) → v < c .vertices → k < 3 → Within (l + 1) (getD (left .positions) (3 * v + k) (pos 0)) (coord exact (exactLimits l fs xs) k v)
+    demand-3-of-the-call v k h j =
+        let ps = positions whole (last whole l fs xs) in
+        let e : getD (left .positions) (3 * v + k) (pos 0) ≡ getD ps (3 * v + k) (pos 0) =
+        ap (λ (b : List ℤ). getD b (3 * v + k) (pos 0)) (call .positions)
+        ∙ stands ps (lent .positions) (3 * c .vertices) (3 * v + k) (pos 0) (positions-long whole rooms l fs xs c told) (room .positions) (omega arith) in
+        rw e (demand-3 l fs xs k v)
+
+    -- the faces of the last level stand in the buffer
+    pub faces-of-the-call : take (3 * c .faces) (left .indices) ≡ last whole l fs xs .mesh .faces
+    faces-of-the-call =
+        ap (λ (b : List ℕ). take (3 * c .faces) b) (call .indices)
+        ∙ part-of (last whole l fs xs .mesh .faces) (lent .indices) 0 (3 * c .faces) (faces-long whole rooms l fs xs c told) (omega (arith, room .indices))
+
+    -- and no count is invented
+    pub counts-of-the-call : c .vertices ≡ after l (sizes (cage (length xs / 3) fs)) .verts × (c .faces ≡ after l (sizes (cage (length xs / 3) fs)) .faces × c .rims ≡ 2 ^ l * rims (links fs))
+    counts-of-the-call = counts-are whole rooms l fs xs c told
+
+-- ---- both engines have one mesh
+
+pub same-faces : (l : ℕ) (fs : List ℕ) (xs : List ℤ) (ys : List Float) → length xs ≡ length ys → last whole l fs xs .mesh ≡ last single l fs ys .mesh
+same-faces l fs xs ys e = same-mesh whole single l fs xs ys e
