@@ -1,0 +1,76 @@
+/* Runs cages through plates.h: reads them from standard input, each as kind (0 whole), levels, how many indices and coordinates, the lengths of the lent
+   positions, normals, out, words and work, then indices and coordinates, all 32-bit words. Writes for each the five numbers told; what was harmed, 0 if nothing; and after
+   success the needed part of positions and out.
+
+   Harmed: bit i, buffer i holds something else than it must, where that does not depend on the cage: before and past the lent length, past the needed length, all of it
+   after a refusal, and zeros in the needed part of words and work. Bit 5, the cage itself. */
+#include <stdint.h>
+#include <stdio.h>
+#include <stdlib.h>
+#include <string.h>
+#include "../crates/plates/plates.h"
+
+enum { POSITIONS, NORMALS, OUT, WORDS, WORK, BUFFERS, MARGIN = 16 };
+
+/* never 0, and not the same at two neighbouring places */
+static uint32_t mark(uint32_t buffer, size_t i) { return (0x5EED0000u ^ buffer << 20 ^ (uint32_t)i * 0x9E3779B2u) | 1; }
+
+static void get(void *to, size_t n) {
+    if (fread(to, 4, n, stdin) != n) {
+        fprintf(stderr, "a cage ends early\n");
+        exit(2);
+    }
+}
+
+static void put(const void *from, size_t n) {
+    if (fwrite(from, 4, n, stdout) != n)
+        exit(2);
+}
+
+static uint32_t *room(size_t n) {
+    uint32_t *p = malloc(4 * (n + 2 * MARGIN));
+    if (!p)
+        exit(2);
+    return p;
+}
+
+static size_t least(size_t a, size_t b) { return a < b ? a : b; }
+
+int main(void) {
+    uint32_t head[4 + BUFFERS];
+    while (fread(head, 4, 4 + BUFFERS, stdin) == 4 + BUFFERS) {
+        size_t n = head[2], m = head[3], total = n + m;
+        const uint32_t *lent = head + 4;
+        uint32_t *cage = room(total), *copy = room(total), *all[BUFFERS], *at[BUFFERS], told[5];
+        get(cage, total);
+        memcpy(copy, cage, 4 * total);
+        for (uint32_t b = 0; b < BUFFERS; b++) {
+            all[b] = room(lent[b]);
+            at[b] = all[b] + MARGIN;
+            for (size_t i = 0; i < (size_t)lent[b] + 2 * MARGIN; i++)
+                all[b][i] = mark(b, i);
+        }
+        plates_loop_subdivide_whole(head[1], cage, n, (int32_t *)(cage + n), m, (int32_t *)at[POSITIONS], lent[POSITIONS], at[OUT], lent[OUT], at[WORDS], lent[WORDS],
+                                    (int32_t *)at[WORK], lent[WORK], told);
+        size_t v = told[0] ? 0 : told[2], f = told[0] ? 0 : told[3];
+        size_t needed[BUFFERS] = {3 * v, 0, 3 * f, 16 * f + 8 * v, 6 * v};
+        uint32_t harmed = (uint32_t)(memcmp(cage, copy, 4 * total) != 0) << BUFFERS;
+        for (uint32_t b = 0; b < BUFFERS; b++) {
+            size_t first = least(needed[b], lent[b]);
+            for (size_t i = 0; i < (size_t)lent[b] + 2 * MARGIN; i++) {
+                int inside = i >= MARGIN && i < MARGIN + first;
+                if (!inside ? all[b][i] != mark(b, i) : b >= WORDS && all[b][i] != 0)
+                    harmed |= 1u << b;
+            }
+        }
+        put(told, 5);
+        put(&harmed, 1);
+        put(at[POSITIONS], least(needed[POSITIONS], lent[POSITIONS]));
+        put(at[OUT], least(needed[OUT], lent[OUT]));
+        for (uint32_t b = 0; b < BUFFERS; b++)
+            free(all[b]);
+        free(cage);
+        free(copy);
+    }
+    return 0;
+}
