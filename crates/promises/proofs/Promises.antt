@@ -4,6 +4,7 @@ use mathlib.Core.Path.{_≡_, refl, sym, ap, _∙_}
 use Prim.Native.Nat.{ℕ, _+_, _*_, _/_, _^_, _<_, _≤_}
 use native.Mathlib.Omega.{arith}
 use mathlib.Core.List.{List}
+use mathlib.Core.Option.{Option, none, some}
 use lib.IntN.{ℤ, pos}
 use lib.ListN.{length, getD, take}
 use lib.Seq.{sets}
@@ -13,8 +14,9 @@ use Rattle.whole.specs.Fraction.{Within}
 use Rattle.rules.specs.Mesh.{Mesh, links, rims, cage}
 use Rattle.rules.specs.Position.{Numbers, whole, single, exact}
 use Rattle.rules.specs.Levels.{coord, first, last, positions, exactLimits, Sizes, sizes, after}
-use Rattle.rules.specs.Answers.{outcome, wholeRooms, written, zeroed, workWords, workCoords}
-use Rattle.rules.specs.Refusals.{Room}
+use Rattle.rules.specs.Sheets.{badSheet, sheetLevels, sheetIndices, sheetCoords, sheetOutcome}
+use Rattle.rules.specs.Answers.{unless, outcome, wholeRooms, written, zeroed, workWords, workCoords}
+use Rattle.rules.specs.Refusals.{Room, check, when}
 use Rattle.rules.specs.declared.Refusal.{Refusal}
 use Rattle.rules.specs.declared.Counts.{Counts}
 use Rattle.rules.specs.declared.Outcome.{Outcome}
@@ -26,7 +28,8 @@ use Rattle.rules.proofs.Levels.{level, sound-level, mesh-levels, counts-level, 
 use Rattle.rules.proofs.Related.{same-mesh}
 use Rattle.rules.proofs.Spokes.{length-positions}
 use Rattle.loopsubdiv.proofs.Outcomes.{Done, done, WholeRoom, whole-room}
-use Rattle.promises.specs.Calls.{Buffers, WholeCall}
+use Rattle.sheet.specs.Calls.{Lent, Subdivided}
+use Rattle.promises.specs.Calls.{Buffers, buffers, WholeCall}
 
 same : {N : Type 0} {a b : Buffers N} → a .positions ≡ b .positions → a .indices ≡ b .indices → a .words ≡ b .words → a .work ≡ b .work → a ≡ b
 same {N} {a} {b} p i w k =
@@ -144,3 +147,32 @@ module _ (l : ℕ) (fs : List ℕ) (xs : List ℤ) (lent : Buffers ℤ) where
 
 pub same-faces : (l : ℕ) (fs : List ℕ) (xs : List ℤ) (ys : List Float) → length xs ≡ length ys → last whole l fs xs .mesh ≡ last single l fs ys .mesh
 same-faces l fs xs ys e = same-mesh whole single l fs xs ys e
+
+-- ---- a sheet that succeeds is the whole call on its lists
+
+past-15 : (o : Option Refusal) (x : Outcome) (c : Counts) → unless o x ≡ Success c → x ≡ Success c
+past-15 none x c e = e
+past-15 (some r) x c e = absurd (let z : _≡_ {A = ℕ} 0 1 = cc in omega arith)
+
+module _ (b : List ℕ) (ps : Lent ℤ) (is ws : Lent ℕ) (cs : Lent ℤ) where
+  pub call-of-a-sheet : (c : Counts) → Subdivided b ps is ws cs (Success c)
+      → WholeCall (sheetLevels b) (sheetIndices b) (sheetCoords b) (buffers (ps .old) (is .old) (ws .old) (cs .old)) (Success c) (buffers (ps .new) (is .new) (ws .new) (cs .new))
+  unfolding sheetOutcome
+  call-of-a-sheet c s =
+      record {
+        answer = sym (past-15 (check 15 (when (badSheet b))) _ c (sym (s .answer)));
+        positions = s .positions;
+        indices = s .indices;
+        words = s .words;
+        work = s .work;
+      }
+
+  pub refused-sheet-writes-nothing : (r : Refusal) → Subdivided b ps is ws cs (Refused r)
+      → ps .new ≡ ps .old × (is .new ≡ is .old × (ws .new ≡ ws .old × cs .new ≡ cs .old))
+  refused-sheet-writes-nothing r s = (s .positions, (s .indices, (s .words, s .work)))
+
+  -- demand 3 of a sheet
+  pub demand-3-of-a-sheet : (c : Counts) → Subdivided b ps is ws cs (Success c) → (v k : ℕ) → v < c .vertices → k < 3
+      → Within (sheetLevels b + 1) (getD (ps .new) (3 * v + k) (pos 0)) (coord exact (exactLimits (sheetLevels b) (sheetIndices b) (sheetCoords b)) k v)
+  demand-3-of-a-sheet c s v k h j =
+      demand-3-of-the-call (sheetLevels b) (sheetIndices b) (sheetCoords b) (buffers (ps .old) (is .old) (ws .old) (cs .old)) c (buffers (ps .new) (is .new) (ws .new) (cs .new)) (call-of-a-sheet c s) v k h j

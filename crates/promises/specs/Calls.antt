@@ -17,6 +17,9 @@ pub record Buffers (N : Type 0) : Type 0 where
   pub words : List ℕ
   pub work : List N
 
+abbrev pub buffers : {N : Type 0} → List N → List ℕ → List ℕ → List N → Buffers N
+buffers p i w k = record { positions = p; indices = i; words = w; work = k }
+
 -- `loop_subdivide_whole`: levels, face list and coordinates; the buffers as they are lent; the answer; and the buffers as they are left
 pub record WholeCall (l : ℕ) (fs : List ℕ) (xs : List ℤ) (lent : Buffers ℤ) (r : Outcome) (left : Buffers ℤ) : Type 0 where
   pub answer : r ≡ outcome whole (wholeRooms (length (lent .positions)) (length (lent .indices)) (length (lent .words)) (length (lent .work))) l fs xs
