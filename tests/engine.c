@@ -1,5 +1,6 @@
-/* Runs cages through plates.h: reads them from standard input, each as kind (0 whole), levels, how many indices and coordinates, the lengths of the lent
-   positions, normals, out, words and work, then indices and coordinates, all 32-bit words. Writes for each the five numbers told; what was harmed, 0 if nothing; and after
+/* Runs cages through plates.h: reads them from standard input, each as kind (0 whole, 2 a sheet), levels, how many indices and coordinates, the lengths of the lent
+   positions, normals, out, words and work, then indices and coordinates, all 32-bit words. A sheet has how many bytes in place of how many indices, 0 coordinates, and
+   its bytes filled up to a word. Writes for each the five numbers told; what was harmed, 0 if nothing; and after
    success the needed part of positions and out.
 
    Harmed: bit i, buffer i holds something else than it must, where that does not depend on the cage: before and past the lent length, past the needed length, all of it
@@ -10,6 +11,7 @@
 #include <string.h>
 #include "../crates/plates/plates.h"
 
+enum { WHOLE = 0, SHEET = 2 };
 enum { POSITIONS, NORMALS, OUT, WORDS, WORK, BUFFERS, MARGIN = 16 };
 
 /* never 0, and not the same at two neighbouring places */
@@ -36,10 +38,20 @@ static uint32_t *room(size_t n) {
 
 static size_t least(size_t a, size_t b) { return a < b ? a : b; }
 
+static void call(const uint32_t *head, uint32_t *cage, uint32_t *const *at, uint32_t *told) {
+    const uint32_t *lent = head + 4;
+    int32_t *positions = (int32_t *)at[POSITIONS], *work = (int32_t *)at[WORK];
+    if (head[0] == WHOLE)
+        plates_loop_subdivide_whole(head[1], cage, head[2], (int32_t *)(cage + head[2]), head[3], positions, lent[POSITIONS], at[OUT], lent[OUT], at[WORDS], lent[WORDS], work,
+                                    lent[WORK], told);
+    else
+        plates_subdivide_sheet((uint8_t *)cage, head[2], positions, lent[POSITIONS], at[OUT], lent[OUT], at[WORDS], lent[WORDS], work, lent[WORK], told);
+}
+
 int main(void) {
     uint32_t head[4 + BUFFERS];
     while (fread(head, 4, 4 + BUFFERS, stdin) == 4 + BUFFERS) {
-        size_t n = head[2], m = head[3], total = n + m;
+        size_t total = head[0] == SHEET ? (head[2] + (size_t)3) / 4 : (size_t)head[2] + head[3];
         const uint32_t *lent = head + 4;
         uint32_t *cage = room(total), *copy = room(total), *all[BUFFERS], *at[BUFFERS], told[5];
         get(cage, total);
@@ -50,8 +62,7 @@ int main(void) {
             for (size_t i = 0; i < (size_t)lent[b] + 2 * MARGIN; i++)
                 all[b][i] = mark(b, i);
         }
-        plates_loop_subdivide_whole(head[1], cage, n, (int32_t *)(cage + n), m, (int32_t *)at[POSITIONS], lent[POSITIONS], at[OUT], lent[OUT], at[WORDS], lent[WORDS],
-                                    (int32_t *)at[WORK], lent[WORK], told);
+        call(head, cage, at, told);
         size_t v = told[0] ? 0 : told[2], f = told[0] ? 0 : told[3];
         size_t needed[BUFFERS] = {3 * v, 0, 3 * f, 16 * f + 8 * v, 6 * v};
         uint32_t harmed = (uint32_t)(memcmp(cage, copy, 4 * total) != 0) << BUFFERS;

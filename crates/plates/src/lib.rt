@@ -5,7 +5,8 @@ ghost use Rattle.rules.specs.Position.{whole};
 ghost use Rattle.rules.specs.Levels.{last};
 ghost use Rattle.rules.specs.Levels.{positions as positionsOf};
 ghost use Rattle.rules.specs.Answers.{answer, written, zeroed, workWords, workCoords};
-ghost use Rattle.plates.specs.Calls.{wholeCall};
+ghost use Rattle.sheet.specs.Calls.{Subdivided, lent};
+ghost use Rattle.plates.specs.Calls.{wholeCall, sheetCall};
 use rules::Outcome;
 
 fn tell(o: Outcome, told: &mut [u32; 5])
@@ -46,6 +47,25 @@ pub extern "C" fn plates_loop_subdivide_whole(
 {
     tell(
         loopsubdiv::loop_subdivide_whole(levels, indices, coords, positions, out, words, work),
+        told,
+    );
+}
+
+// The whole engine on a sheet of any length.
+#[no_mangle]
+pub extern "C" fn plates_subdivide_sheet(
+    bytes: &[u8],
+    positions: &mut [i32],
+    out: &mut [u32],
+    words: &mut [u32],
+    work: &mut [i32],
+    told: &mut [u32; 5],
+)
+    ensures answer { λ r. ⌜ now (told .exit) ≡ answer (sheetCall (now (positions .entry)) (now (out .entry)) (now (words .entry)) (now (work .entry)) (now (bytes .entry))) ⌝ }
+    ensures buffers { λ r. ⌜ Subdivided (now (bytes .entry)) (lent (now (positions .entry)) (now (positions .exit))) (lent (now (out .entry)) (now (out .exit))) (lent (now (words .entry)) (now (words .exit))) (lent (now (work .entry)) (now (work .exit))) (sheetCall (now (positions .entry)) (now (out .entry)) (now (words .entry)) (now (work .entry)) (now (bytes .entry))) ⌝ }
+{
+    tell(
+        sheet::subdivide_sheet(bytes, positions, out, words, work),
         told,
     );
 }
