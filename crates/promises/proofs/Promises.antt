@@ -15,7 +15,8 @@ use Rattle.rules.specs.Mesh.{Mesh, links, rims, cage}
 use Rattle.rules.specs.Position.{Numbers, whole, single, exact}
 use Rattle.rules.specs.Levels.{coord, first, last, positions, exactLimits, Sizes, sizes, after}
 use Rattle.rules.specs.Sheets.{badSheet, sheetLevels, sheetIndices, sheetCoords, sheetOutcome}
-use Rattle.rules.specs.Answers.{unless, outcome, wholeRooms, written, zeroed, workWords, workCoords}
+use Rattle.rules.specs.Tangents.{normals}
+use Rattle.rules.specs.Answers.{counted, unless, outcome, written, zeroed, workWords, workCoords}
 use Rattle.rules.specs.Refusals.{Room, check, when}
 use Rattle.rules.specs.declared.Refusal.{Refusal}
 use Rattle.rules.specs.declared.Counts.{Counts}
@@ -27,9 +28,9 @@ use Rattle.rules.proofs.Sound.{Sound}
 use Rattle.rules.proofs.Levels.{level, sound-level, mesh-levels, counts-level, rims-level}
 use Rattle.rules.proofs.Related.{same-mesh}
 use Rattle.rules.proofs.Spokes.{length-positions}
-use Rattle.loopsubdiv.proofs.Outcomes.{Done, done, WholeRoom, whole-room}
+use Rattle.loopsubdiv.proofs.Outcomes.{Done, done, WholeRoom, whole-room, single-room}
 use Rattle.sheet.specs.Calls.{Lent, Subdivided}
-use Rattle.promises.specs.Calls.{Buffers, buffers, WholeCall}
+use Rattle.promises.specs.Calls.{Buffers, buffers, Call, wholeRoom, WholeCall, singleRoom, SingleCall}
 
 same : {N : Type 0} {a b : Buffers N} → a .positions ≡ b .positions → a .indices ≡ b .indices → a .words ≡ b .words → a .work ≡ b .work → a ≡ b
 same {N} {a} {b} p i w k =
@@ -38,115 +39,133 @@ same {N} {a} {b} p i w k =
     ∙ ap {B = Buffers N} (λ z. record { positions = b .positions; indices = b .indices; words = z; work = a .work }) w
     ∙ ap {B = Buffers N} (λ z. record { positions = b .positions; indices = b .indices; words = b .words; work = z }) k
 
--- ---- a call that succeeds, of either engine
-
-module _ (𝓝 : Numbers) (rooms : Counts → List Room) (l : ℕ) (fs : List ℕ) (xs : List (𝓝 .N)) (c : Counts) (told : Done 𝓝 rooms l fs xs c) where
-  abbrev control : Mesh
-  control = cage (length xs / 3) fs
-
-  sound : Sound (length fs / 3) control
-  sound = accepted 𝓝 l fs xs (told .passes) .sound
-
-  mesh-is : last 𝓝 l fs xs .mesh ≡ level l control
-  mesh-is = mesh-levels 𝓝 l (first 𝓝 fs xs)
-
-  pub positions-long : length (positions 𝓝 (last 𝓝 l fs xs)) ≡ 3 * c .vertices
-  positions-long = length-positions 𝓝 (last 𝓝 l fs xs) ∙ ap (λ (k : Counts). 3 * k .vertices) (told .counts)
-
-  pub faces-long : length (last 𝓝 l fs xs .mesh .faces) ≡ 3 * c .faces
-  faces-long =
-      let a = ap (λ (m : Mesh). length (m .faces)) mesh-is ∙ sound-level l (length fs / 3) control sound .good .size in
-      let b = ap (λ (k : Counts). k .faces) (told .counts) in
-      omega (arith, a, b)
-
-  -- with E edges one level gives V + E vertices, 4 F faces and 2 E + 3 F edges; and it halves each rim side
-  pub counts-are : c .vertices ≡ after l (sizes control) .verts × (c .faces ≡ after l (sizes control) .faces × c .rims ≡ 2 ^ l * rims (links fs))
-  unfolding cage
-  counts-are =
-      let z = counts-level l (length fs / 3) control sound in (
-        sym (ap (λ (k : Counts). k .vertices) (told .counts)) ∙ ap (λ (m : Mesh). m .verts) mesh-is ∙ ap (λ (n : Sizes). n .verts) z,
-        (
-          sym (ap (λ (k : Counts). k .faces) (told .counts)) ∙ ap (λ (m : Mesh). length (m .faces) / 3) mesh-is ∙ ap (λ (n : Sizes). n .faces) z,
-          sym (ap (λ (k : Counts). k .rims) (told .counts)) ∙ ap (λ (m : Mesh). rims (links (m .faces))) mesh-is ∙ rims-level l (length fs / 3) control sound,
-        ),
-      )
-
 -- an entry of what is written at the front of a buffer that has room for it
 stands : {A : Type 0} (front old : List A) (n i : ℕ) (d : A) → length front ≡ n → n ≤ length old → i < n → getD (sets old 0 front) i d ≡ getD front i d
 stands front old n i d e h k = let z : 0 + i ≡ i = omega arith in rw z at (getD-within front old 0 i d (omega arith) (omega arith))
 
--- ---- the whole call
+-- ---- a call of either engine
 
-module _ (l : ℕ) (fs : List ℕ) (xs : List ℤ) (lent : Buffers ℤ) where
-  abbrev rooms : Counts → List Room
-  rooms = wholeRooms (length (lent .positions)) (length (lent .indices)) (length (lent .words)) (length (lent .work))
-
+module _ (𝓝 : Numbers) (rooms : Counts → List Room) (l : ℕ) (fs : List ℕ) (xs : List (𝓝 .N)) (lent : Buffers (𝓝 .N)) where
   -- two outcomes that are allowed are one
-  pub one-outcome : (r q : Outcome) (left other : Buffers ℤ) → WholeCall l fs xs lent r left → WholeCall l fs xs lent q other → (r ≡ q) × (left ≡ other)
+  pub one-outcome : (r q : Outcome) (left other : Buffers (𝓝 .N)) → Call 𝓝 rooms l fs xs lent r left → Call 𝓝 rooms l fs xs lent q other → r ≡ q × left ≡ other
   one-outcome r q left other c d =
       let e : r ≡ q = c .answer ∙ sym (d .answer) in (
         e,
         same
-            (c .positions ∙ ap {B = List ℤ} (λ o. written o (positions whole (last whole l fs xs)) (lent .positions)) e ∙ sym (d .positions))
-            (c .indices ∙ ap {B = List ℕ} (λ o. written o (last whole l fs xs .mesh .faces) (lent .indices)) e ∙ sym (d .indices))
+            (c .positions ∙ ap {B = List (𝓝 .N)} (λ o. written o (positions 𝓝 (last 𝓝 l fs xs)) (lent .positions)) e ∙ sym (d .positions))
+            (c .indices ∙ ap {B = List ℕ} (λ o. written o (last 𝓝 l fs xs .mesh .faces) (lent .indices)) e ∙ sym (d .indices))
             (c .words ∙ ap {B = List ℕ} (λ o. zeroed o 0 workWords (lent .words)) e ∙ sym (d .words))
-            (c .work ∙ ap {B = List ℤ} (λ o. zeroed o (pos 0) workCoords (lent .work)) e ∙ sym (d .work)),
+            (c .work ∙ ap {B = List (𝓝 .N)} (λ o. zeroed o (𝓝 .nought) workCoords (lent .work)) e ∙ sym (d .work)),
       )
-
-  -- a refusal writes nothing
-  pub refusal-writes-nothing : (r : Refusal) (left : Buffers ℤ) → WholeCall l fs xs lent (Refused r) left → left ≡ lent
-  refusal-writes-nothing r left c = same (c .positions) (c .indices) (c .words) (c .work)
 
   -- every call has an outcome that is allowed
   pub record Answered : Type 0 where
     pub answer : Outcome
-    pub left : Buffers ℤ
-    pub call : WholeCall l fs xs lent answer left
+    pub left : Buffers (𝓝 .N)
+    pub call : Call 𝓝 rooms l fs xs lent answer left
 
   pub every-call-answers : Answered
   every-call-answers =
-      let r = outcome whole rooms l fs xs in
+      let r = outcome 𝓝 rooms l fs xs in
       record {
         answer = r;
         left = record {
-          positions = written r (positions whole (last whole l fs xs)) (lent .positions);
-          indices = written r (last whole l fs xs .mesh .faces) (lent .indices);
+          positions = written r (positions 𝓝 (last 𝓝 l fs xs)) (lent .positions);
+          indices = written r (last 𝓝 l fs xs .mesh .faces) (lent .indices);
           words = zeroed r 0 workWords (lent .words);
-          work = zeroed r (pos 0) workCoords (lent .work);
+          work = zeroed r (𝓝 .nought) workCoords (lent .work);
         };
         call = record { answer = refl; positions = refl; indices = refl; words = refl; work = refl };
       }
 
-  module _ (c : Counts) (left : Buffers ℤ) (call : WholeCall l fs xs lent (Success c) left) where
-    told : Done whole rooms l fs xs c
-    told = done whole rooms l fs xs c (sym (call .answer))
+  -- a refusal writes nothing
+  pub refusal-writes-nothing : (r : Refusal) (left : Buffers (𝓝 .N)) → Call 𝓝 rooms l fs xs lent (Refused r) left → left ≡ lent
+  refusal-writes-nothing r left c = same (c .positions) (c .indices) (c .words) (c .work)
 
-    room : WholeRoom (length (lent .positions)) (length (lent .indices)) (length (lent .words)) (length (lent .work)) c
-    room = whole-room (length (lent .positions)) (length (lent .indices)) (length (lent .words)) (length (lent .work)) c (told .room)
+  module _ (c : Counts) (left : Buffers (𝓝 .N)) (call : Call 𝓝 rooms l fs xs lent (Success c) left) where
+    abbrev control : Mesh
+    control = cage (length xs / 3) fs
 
-    -- demand 3: coordinate k of vertex v, as it stands in the buffer, is within (l + 1) / 2 of the exact limit position at l levels
-    pub demand-3-of-the-call : (v k : ℕ) → v < c .vertices → k < 3 → Within (l + 1) (getD (left .positions) (3 * v + k) (pos 0)) (coord exact (exactLimits l fs xs) k v)
-    demand-3-of-the-call v k h j =
-        let ps = positions whole (last whole l fs xs) in
-        let e : getD (left .positions) (3 * v + k) (pos 0) ≡ getD ps (3 * v + k) (pos 0) =
-        ap (λ (b : List ℤ). getD b (3 * v + k) (pos 0)) (call .positions)
-        ∙ stands ps (lent .positions) (3 * c .vertices) (3 * v + k) (pos 0) (positions-long whole rooms l fs xs c told) (room .positions) (omega arith) in
-        rw e (demand-3 l fs xs k v)
+    pub told : Done 𝓝 rooms l fs xs c
+    told = done 𝓝 rooms l fs xs c (sym (call .answer))
+
+    sound : Sound (length fs / 3) control
+    sound = accepted 𝓝 l fs xs (told .passes) .sound
+
+    mesh-is : last 𝓝 l fs xs .mesh ≡ level l control
+    mesh-is = mesh-levels 𝓝 l (first 𝓝 fs xs)
+
+    pub positions-long : length (positions 𝓝 (last 𝓝 l fs xs)) ≡ 3 * c .vertices
+    positions-long = length-positions 𝓝 (last 𝓝 l fs xs) ∙ ap (λ (k : Counts). 3 * k .vertices) (told .counts)
+
+    pub faces-long : length (last 𝓝 l fs xs .mesh .faces) ≡ 3 * c .faces
+    faces-long =
+        let a = ap (λ (m : Mesh). length (m .faces)) mesh-is ∙ sound-level l (length fs / 3) control sound .good .size in
+        let b = ap (λ (k : Counts). k .faces) (told .counts) in
+        omega (arith, a, b)
+
+    -- no count is invented: with E edges one level gives V + E vertices, 4 F faces and 2 E + 3 F edges, and it makes two of each rim side
+    pub final-counts : c .vertices ≡ after l (sizes (cage (length xs / 3) fs)) .verts × (c .faces ≡ after l (sizes (cage (length xs / 3) fs)) .faces × c .rims ≡ 2 ^ l * rims (links fs))
+    unfolding cage
+    final-counts =
+        let z = counts-level l (length fs / 3) control sound in (
+          sym (ap (λ (k : Counts). k .vertices) (told .counts)) ∙ ap (λ (m : Mesh). m .verts) mesh-is ∙ ap (λ (n : Sizes). n .verts) z,
+          (
+            sym (ap (λ (k : Counts). k .faces) (told .counts)) ∙ ap (λ (m : Mesh). length (m .faces) / 3) mesh-is ∙ ap (λ (n : Sizes). n .faces) z,
+            sym (ap (λ (k : Counts). k .rims) (told .counts)) ∙ ap (λ (m : Mesh). rims (links (m .faces))) mesh-is ∙ rims-level l (length fs / 3) control sound,
+          ),
+        )
 
     -- the faces of the last level stand in the buffer
-    pub faces-of-the-call : take (3 * c .faces) (left .indices) ≡ last whole l fs xs .mesh .faces
-    faces-of-the-call =
+    faces-stand : 3 * c .faces ≤ length (lent .indices) → take (3 * c .faces) (left .indices) ≡ last 𝓝 l fs xs .mesh .faces
+    faces-stand h =
         ap (λ (b : List ℕ). take (3 * c .faces) b) (call .indices)
-        ∙ part-of (last whole l fs xs .mesh .faces) (lent .indices) 0 (3 * c .faces) (faces-long whole rooms l fs xs c told) (omega (arith, room .indices))
+        ∙ part-of (last 𝓝 l fs xs .mesh .faces) (lent .indices) 0 (3 * c .faces) faces-long (omega arith)
 
-    -- and no count is invented
-    pub counts-of-the-call : c .vertices ≡ after l (sizes (cage (length xs / 3) fs)) .verts × (c .faces ≡ after l (sizes (cage (length xs / 3) fs)) .faces × c .rims ≡ 2 ^ l * rims (links fs))
-    counts-of-the-call = counts-are whole rooms l fs xs c told
+-- ---- the whole call
 
--- ---- both engines have one mesh
+module _ (l : ℕ) (fs : List ℕ) (xs : List ℤ) (lent : Buffers ℤ) (c : Counts) (left : Buffers ℤ) (call : WholeCall l fs xs lent (Success c) left) where
+  whole-rooms : WholeRoom (length (lent .positions)) (length (lent .indices)) (length (lent .words)) (length (lent .work)) c
+  whole-rooms = whole-room (length (lent .positions)) (length (lent .indices)) (length (lent .words)) (length (lent .work)) c (told whole (wholeRoom lent) l fs xs lent c left call .room)
 
-pub same-faces : (l : ℕ) (fs : List ℕ) (xs : List ℤ) (ys : List Float) → length xs ≡ length ys → last whole l fs xs .mesh ≡ last single l fs ys .mesh
-same-faces l fs xs ys e = same-mesh whole single l fs xs ys e
+  pub whole-faces : take (3 * c .faces) (left .indices) ≡ last whole l fs xs .mesh .faces
+  whole-faces = faces-stand whole (wholeRoom lent) l fs xs lent c left call (whole-rooms .indices)
+
+  -- demand 3: coordinate k of vertex v, as it stands in the buffer, is within (l + 1) / 2 of the exact limit position at l levels
+  pub demand-3-of-the-call : (v k : ℕ) → v < c .vertices → k < 3 → Within (l + 1) (getD (left .positions) (3 * v + k) (pos 0)) (coord exact (exactLimits l fs xs) k v)
+  demand-3-of-the-call v k h j =
+      let ps = positions whole (last whole l fs xs) in
+      let e : getD (left .positions) (3 * v + k) (pos 0) ≡ getD ps (3 * v + k) (pos 0) =
+      ap (λ (b : List ℤ). getD b (3 * v + k) (pos 0)) (call .positions)
+      ∙ stands ps (lent .positions) (3 * c .vertices) (3 * v + k) (pos 0) (positions-long whole (wholeRoom lent) l fs xs lent c left call) (whole-rooms .positions) (omega arith) in
+      rw e (demand-3 l fs xs k v)
+
+-- ---- the f32 call: as the whole one, with one more buffer
+
+module _ (l : ℕ) (fs : List ℕ) (xs : List Float) (lent : Buffers Float) (old : List Float) where
+  pub one-outcome-with-normals : (r q : Outcome) (left other : Buffers Float) (new also : List Float) → SingleCall l fs xs lent old r left new → SingleCall l fs xs lent old q other also
+      → r ≡ q × (left ≡ other × new ≡ also)
+  one-outcome-with-normals r q left other new also c d =
+      let o = one-outcome single (singleRoom lent old) l fs xs lent r q left other (c .call) (d .call) in
+      (o .0, (o .1, c .normals ∙ ap {B = List Float} (λ a. written a (normals (last single l fs xs)) old) (o .0) ∙ sym (d .normals)))
+
+  pub refusal-writes-no-normals : (r : Refusal) (left : Buffers Float) (new : List Float) → SingleCall l fs xs lent old (Refused r) left new → left ≡ lent × new ≡ old
+  refusal-writes-no-normals r left new c = (refusal-writes-nothing single (singleRoom lent old) l fs xs lent r left (c .call), c .normals)
+
+  pub single-faces : (c : Counts) (left : Buffers Float) (new : List Float) → SingleCall l fs xs lent old (Success c) left new → take (3 * c .faces) (left .indices) ≡ last single l fs xs .mesh .faces
+  single-faces c left new s =
+      let r = single-room (length (lent .positions)) (length old) (length (lent .indices)) (length (lent .words)) (length (lent .work)) c (told single (singleRoom lent old) l fs xs lent c left (s .call) .room) in
+      faces-stand single (singleRoom lent old) l fs xs lent c left (s .call) (r .indices)
+
+-- ---- both engines answer with one mesh: the same counts, and the same faces in their buffers
+
+pub same-faces : (l : ℕ) (fs : List ℕ) (xs : List ℤ) (ys : List Float) (lent left : Buffers ℤ) (lend leave : Buffers Float) (old new : List Float) (c d : Counts) → length xs ≡ length ys
+    → WholeCall l fs xs lent (Success c) left → SingleCall l fs ys lend old (Success d) leave new → c ≡ d × take (3 * c .faces) (left .indices) ≡ take (3 * d .faces) (leave .indices)
+same-faces l fs xs ys lent left lend leave old new c d e w s =
+    let m = same-mesh whole single l fs xs ys e in (
+      sym (told whole (wholeRoom lent) l fs xs lent c left w .counts) ∙ ap {B = Counts} (λ a. counted a) m ∙ told single (singleRoom lend old) l fs ys lend d leave (s .call) .counts,
+      whole-faces l fs xs lent c left w ∙ ap (λ (a : Mesh). a .faces) m ∙ sym (single-faces l fs ys lend old d leave new s),
+    )
 
 -- ---- a sheet that succeeds is the whole call on its lists
 

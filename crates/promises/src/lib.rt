@@ -1,7 +1,7 @@
-// What the promises of the public calls say together: the calls as relations in specs/, the theorems in proofs/. Its one function only shows that the whole call
-// keeps the relation that stands for it there.
+// What the promises of the public calls say together: the calls as relations in specs/, the theorems in proofs/. Its two functions only
+// show that each call keeps the relation that stands for it there.
 ghost use denote.Ref.{now};
-ghost use Rattle.promises.specs.Calls.{WholeCall, buffers};
+ghost use Rattle.promises.specs.Calls.{WholeCall, SingleCall, buffers};
 use rules::Outcome;
 
 fn whole_call(
@@ -16,4 +16,28 @@ fn whole_call(
     ensures { λ r. ⌜ WholeCall levels (now (indices .entry)) (now (coords .entry)) (buffers (now (positions .entry)) (now (out .entry)) (now (words .entry)) (now (work .entry))) r (buffers (now (positions .exit)) (now (out .exit)) (now (words .exit)) (now (work .exit))) ⌝ }
 {
     loopsubdiv::loop_subdivide_whole(levels, indices, coords, positions, out, words, work)
+}
+
+fn single_call(
+    levels: u32,
+    indices: &[u32],
+    coords: &[f32],
+    positions: &mut [f32],
+    normals: &mut [f32],
+    out: &mut [u32],
+    words: &mut [u32],
+    work: &mut [f32],
+) -> Outcome
+    ensures { λ r. ⌜ SingleCall levels (now (indices .entry)) (now (coords .entry)) (buffers (now (positions .entry)) (now (out .entry)) (now (words .entry)) (now (work .entry))) (now (normals .entry)) r (buffers (now (positions .exit)) (now (out .exit)) (now (words .exit)) (now (work .exit))) (now (normals .exit)) ⌝ }
+{
+    loopsubdiv::loop_subdivide(
+        levels,
+        indices,
+        coords,
+        positions,
+        normals,
+        out,
+        words,
+        work,
+    )
 }
