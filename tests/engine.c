@@ -1,7 +1,7 @@
-/* Runs cages through plates.h: reads them from standard input, each as kind (0 whole, 2 a sheet), levels, how many indices and coordinates, the lengths of the lent
+/* Runs cages through plates.h: reads them from standard input, each as kind (0 whole, 1 f32, 2 a sheet), levels, how many indices and coordinates, the lengths of the lent
    positions, normals, out, words and work, then indices and coordinates, all 32-bit words. A sheet has how many bytes in place of how many indices, 0 coordinates, and
    its bytes filled up to a word. Writes for each the five numbers told; what was harmed, 0 if nothing; and after
-   success the needed part of positions and out.
+   success the needed part of positions, normals and out.
 
    Harmed: bit i, buffer i holds something else than it must, where that does not depend on the cage: before and past the lent length, past the needed length, all of it
    after a refusal, and zeros in the needed part of words and work. Bit 5, the cage itself. */
@@ -11,7 +11,7 @@
 #include <string.h>
 #include "../crates/plates/plates.h"
 
-enum { WHOLE = 0, SHEET = 2 };
+enum { WHOLE, SINGLE, SHEET };
 enum { POSITIONS, NORMALS, OUT, WORDS, WORK, BUFFERS, MARGIN = 16 };
 
 /* never 0, and not the same at two neighbouring places */
@@ -44,6 +44,9 @@ static void call(const uint32_t *head, uint32_t *cage, uint32_t *const *at, uint
     if (head[0] == WHOLE)
         plates_loop_subdivide_whole(head[1], cage, head[2], (int32_t *)(cage + head[2]), head[3], positions, lent[POSITIONS], at[OUT], lent[OUT], at[WORDS], lent[WORDS], work,
                                     lent[WORK], told);
+    else if (head[0] == SINGLE)
+        plates_loop_subdivide(head[1], cage, head[2], (float *)(cage + head[2]), head[3], (float *)at[POSITIONS], lent[POSITIONS], (float *)at[NORMALS], lent[NORMALS], at[OUT],
+                              lent[OUT], at[WORDS], lent[WORDS], (float *)at[WORK], lent[WORK], told);
     else
         plates_subdivide_sheet((uint8_t *)cage, head[2], positions, lent[POSITIONS], at[OUT], lent[OUT], at[WORDS], lent[WORDS], work, lent[WORK], told);
 }
@@ -64,7 +67,7 @@ int main(void) {
         }
         call(head, cage, at, told);
         size_t v = told[0] ? 0 : told[2], f = told[0] ? 0 : told[3];
-        size_t needed[BUFFERS] = {3 * v, 0, 3 * f, 16 * f + 8 * v, 6 * v};
+        size_t needed[BUFFERS] = {3 * v, head[0] == SINGLE ? 3 * v : 0, 3 * f, 16 * f + 8 * v, 6 * v};
         uint32_t harmed = (uint32_t)(memcmp(cage, copy, 4 * total) != 0) << BUFFERS;
         for (uint32_t b = 0; b < BUFFERS; b++) {
             size_t first = least(needed[b], lent[b]);
@@ -77,6 +80,7 @@ int main(void) {
         put(told, 5);
         put(&harmed, 1);
         put(at[POSITIONS], least(needed[POSITIONS], lent[POSITIONS]));
+        put(at[NORMALS], least(needed[NORMALS], lent[NORMALS]));
         put(at[OUT], least(needed[OUT], lent[OUT]));
         for (uint32_t b = 0; b < BUFFERS; b++)
             free(all[b]);

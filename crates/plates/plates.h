@@ -29,7 +29,18 @@ void plates_loop_subdivide_whole(uint32_t levels,
                                  int32_t *work, size_t work_length,
                                  uint32_t told[5]);
 
-/* The same on a sheet: `bytes` has the vertex block, the face block and the trailer of five numbers, little endian (docs/RULES.md). */
+/* f32, finite and of size at most 2^40; with normals, which are not made unit. */
+void plates_loop_subdivide(uint32_t levels,
+                           const uint32_t *indices, size_t indices_length,
+                           const float *coords, size_t coords_length,
+                           float *positions, size_t positions_length,
+                           float *normals, size_t normals_length,
+                           uint32_t *out, size_t out_length,
+                           uint32_t *words, size_t words_length,
+                           float *work, size_t work_length,
+                           uint32_t told[5]);
+
+/* The whole call on a sheet: `bytes` has the vertex block, the face block and the trailer of five numbers, little endian (docs/RULES.md). */
 void plates_subdivide_sheet(const uint8_t *bytes, size_t bytes_length,
                             int32_t *positions, size_t positions_length,
                             uint32_t *out, size_t out_length,

@@ -1,12 +1,13 @@
 // For C (plates.h): the public calls over numbers and slices, with the five numbers of document 01 for the answer. Each promises all that the call below it does.
 ghost use mathlib.Core.Path.{_≡_};
 ghost use lib.IntN.{pos};
-ghost use Rattle.rules.specs.Position.{whole};
+ghost use Rattle.rules.specs.Position.{whole, single, f32};
 ghost use Rattle.rules.specs.Levels.{last};
 ghost use Rattle.rules.specs.Levels.{positions as positionsOf};
+ghost use Rattle.rules.specs.Tangents.{normals as normalsOf};
 ghost use Rattle.rules.specs.Answers.{answer, written, zeroed, workWords, workCoords};
 ghost use Rattle.sheet.specs.Calls.{Subdivided, lent};
-ghost use Rattle.plates.specs.Calls.{wholeCall, sheetCall};
+ghost use Rattle.plates.specs.Calls.{wholeCall, singleCall, sheetCall};
 use rules::Outcome;
 
 fn tell(o: Outcome, told: &mut [u32; 5])
@@ -47,6 +48,41 @@ pub extern "C" fn plates_loop_subdivide_whole(
 {
     tell(
         loopsubdiv::loop_subdivide_whole(levels, indices, coords, positions, out, words, work),
+        told,
+    );
+}
+
+// In f32, with normals.
+#[no_mangle]
+pub extern "C" fn plates_loop_subdivide(
+    levels: u32,
+    indices: &[u32],
+    coords: &[f32],
+    positions: &mut [f32],
+    normals: &mut [f32],
+    out: &mut [u32],
+    words: &mut [u32],
+    work: &mut [f32],
+    told: &mut [u32; 5],
+)
+    ensures answer { λ r. ⌜ now (told .exit) ≡ answer (singleCall (now (positions .entry)) (now (normals .entry)) (now (out .entry)) (now (words .entry)) (now (work .entry)) levels (now (indices .entry)) (now (coords .entry))) ⌝ }
+    ensures positions { λ r. ⌜ now (positions .exit) ≡ written (singleCall (now (positions .entry)) (now (normals .entry)) (now (out .entry)) (now (words .entry)) (now (work .entry)) levels (now (indices .entry)) (now (coords .entry))) (positionsOf single (last single levels (now (indices .entry)) (now (coords .entry)))) (now (positions .entry)) ⌝ }
+    ensures normals { λ r. ⌜ now (normals .exit) ≡ written (singleCall (now (positions .entry)) (now (normals .entry)) (now (out .entry)) (now (words .entry)) (now (work .entry)) levels (now (indices .entry)) (now (coords .entry))) (normalsOf (last single levels (now (indices .entry)) (now (coords .entry)))) (now (normals .entry)) ⌝ }
+    ensures out { λ r. ⌜ now (out .exit) ≡ written (singleCall (now (positions .entry)) (now (normals .entry)) (now (out .entry)) (now (words .entry)) (now (work .entry)) levels (now (indices .entry)) (now (coords .entry))) (last single levels (now (indices .entry)) (now (coords .entry)) .mesh .faces) (now (out .entry)) ⌝ }
+    ensures words { λ r. ⌜ now (words .exit) ≡ zeroed (singleCall (now (positions .entry)) (now (normals .entry)) (now (out .entry)) (now (words .entry)) (now (work .entry)) levels (now (indices .entry)) (now (coords .entry))) 0 workWords (now (words .entry)) ⌝ }
+    ensures work { λ r. ⌜ now (work .exit) ≡ zeroed (singleCall (now (positions .entry)) (now (normals .entry)) (now (out .entry)) (now (words .entry)) (now (work .entry)) levels (now (indices .entry)) (now (coords .entry))) (f32 0) workCoords (now (work .entry)) ⌝ }
+{
+    tell(
+        loopsubdiv::loop_subdivide(
+            levels,
+            indices,
+            coords,
+            positions,
+            normals,
+            out,
+            words,
+            work,
+        ),
         told,
     );
 }
