@@ -1,6 +1,7 @@
 /* Times the calls of plates.h beside the yardstick, limit.c. Reads cases from standard input, each as how many cages it has, then for each cage levels, how many indices,
    how many coordinates, and those, all 32-bit words. Writes a line for each case: output faces, bytes of work room lent to the largest cage, and the nanoseconds of the
-   fastest run over all its cages: our whole call, the yardstick's. Ends with status 1 where the two disagree. The argument is the number of repetitions; in each, all
+   fastest run over all its cages: our whole call, the yardstick's, our f32 call, the yardstick's. Ends with status 1 where the two disagree (but for normals: the
+   yardstick has a library's sine). The argument is the number of repetitions; in each, all
    take their turn. */
 #include <stdint.h>
 #include <stdio.h>
@@ -15,10 +16,12 @@ enum { F = 32768, V = 32768, CAGES = 64 };
 typedef struct {
     uint32_t levels, n, m, *indices;
     int32_t *coords;
+    float *floats;
 } cage;
 
 static cage cages[CAGES];
 static int32_t ours[3 * V], theirs[3 * V], work[6 * V];
+static float our_points[3 * V], their_points[3 * V], our_normals[3 * V], their_normals[3 * V], float_work[6 * V];
 static uint32_t our_faces[3 * F], their_faces[3 * F], words[16 * F + 8 * V], told[5];
 static limit_result result;
 
@@ -48,13 +51,19 @@ static void our_whole(const cage *c) {
 
 static void their_whole(const cage *c) { result = limit_run(1, c->levels, c->m / 3, c->coords, c->n / 3, c->indices, theirs, 0, their_faces, words, work); }
 
-static void (*const runs[])(const cage *) = {our_whole, their_whole};
+static void our_single(const cage *c) {
+    plates_loop_subdivide(c->levels, c->indices, c->n, c->floats, c->m, our_points, 3 * V, our_normals, 3 * V, our_faces, 3 * F, words, 16 * F + 8 * V, float_work, 6 * V, told);
+}
+
+static void their_single(const cage *c) {
+    result = limit_run(0, c->levels, c->m / 3, c->floats, c->n / 3, c->indices, their_points, their_normals, their_faces, words, float_work);
+}
+
+static void (*const runs[])(const cage *) = {our_whole, their_whole, our_single, their_single};
 enum { RUNS = sizeof runs / sizeof *runs };
 
-static void agree(const cage *c) {
-    our_whole(c);
-    their_whole(c);
-    if (told[0] || result.no || told[2] != result.vertices || told[3] != result.faces || told[4] != result.rim || memcmp(ours, theirs, 12 * (size_t)told[2]) ||
+static void agree(const void *mine, const void *its) {
+    if (told[0] || result.no || told[2] != result.vertices || told[3] != result.faces || told[4] != result.rim || memcmp(mine, its, 12 * (size_t)told[2]) ||
         memcmp(our_faces, their_faces, 12 * (size_t)told[3])) {
         fprintf(stderr, "the two disagree: refusal %u, %d; vertices %u, %u; faces %u, %u\n", told[0], result.no, told[2], result.vertices, told[3], result.faces);
         exit(1);
@@ -75,7 +84,15 @@ int main(int argc, char **argv) {
             c->coords = room(c->m);
             get(c->indices, c->n);
             get(c->coords, c->m);
-            agree(c);
+            c->floats = room(c->m);
+            for (uint32_t k = 0; k < c->m; k++)
+                c->floats[k] = (float)c->coords[k];
+            our_whole(c);
+            their_whole(c);
+            agree(ours, theirs);
+            our_single(c);
+            their_single(c);
+            agree(our_points, their_points);
             faces += told[3];
             uint64_t bytes = 4 * (16 * (uint64_t)told[3] + 14 * (uint64_t)told[2]);
             lent = bytes > lent ? bytes : lent;
@@ -97,6 +114,7 @@ int main(int argc, char **argv) {
         for (uint32_t i = 0; i < count; i++) {
             free(cages[i].indices);
             free(cages[i].coords);
+            free(cages[i].floats);
         }
     }
     return 0;
