@@ -1,2 +1,3 @@
 pub mod Calls
 pub mod Shut
+pub mod ShutSingle
