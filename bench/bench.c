@@ -1,6 +1,7 @@
 /* Times the calls of plates.h beside the yardstick, limit.c. Reads cases from standard input, each as how many cages it has, then for each cage levels, how many indices,
    how many coordinates, and those, all 32-bit words. Writes a line for each case: output faces, bytes of work room lent to the largest cage, and the nanoseconds of the
-   fastest run over all its cages: our whole call, the yardstick's, our f32 call, the yardstick's. Ends with status 1 where the two disagree (but for normals: the
+   fastest run over all its cages: our whole call, the yardstick's, our f32 call, the yardstick's, and our whole call with no positions lent, which makes every check and
+   then refuses. Ends with status 1 where the two disagree (but for normals: the
    yardstick has a library's sine). The argument is the number of repetitions; in each, all
    take their turn. */
 #include <stdint.h>
@@ -59,7 +60,11 @@ static void their_single(const cage *c) {
     result = limit_run(0, c->levels, c->m / 3, c->floats, c->n / 3, c->indices, their_points, their_normals, their_faces, words, float_work);
 }
 
-static void (*const runs[])(const cage *) = {our_whole, their_whole, our_single, their_single};
+static void our_checks(const cage *c) {
+    plates_loop_subdivide_whole(c->levels, c->indices, c->n, c->coords, c->m, ours, 0, our_faces, 3 * F, words, 16 * F + 8 * V, work, 6 * V, told);
+}
+
+static void (*const runs[])(const cage *) = {our_whole, their_whole, our_single, their_single, our_checks};
 enum { RUNS = sizeof runs / sizeof *runs };
 
 static void agree(const void *mine, const void *its) {
