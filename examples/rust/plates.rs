@@ -1,0 +1,83 @@
+//! A safe way into the static library of crate `plates` from Rust, and a small use of it. Built and run by tests/gate-rust.
+//! Nothing checks the declaration below against crates/plates/src/lib.rt: keep the two side by side.
+
+/// Why a cage or a sheet was refused: docs/HANDBOOK.md explains each number.
+#[derive(Debug, PartialEq)]
+pub struct Refusal {
+    pub number: u32,
+    pub place: u32,
+}
+
+#[derive(Debug, PartialEq)]
+pub struct Mesh {
+    pub positions: Vec<[i32; 3]>,
+    pub faces: Vec<[u32; 3]>,
+    pub rim_sides: u32,
+}
+
+extern "C" {
+    fn plates_loop_subdivide_whole(
+        levels: u32,
+        indices: *const u32, indices_len: usize,
+        coords: *const i32, coords_len: usize,
+        positions: *mut i32, positions_len: usize,
+        out: *mut u32, out_len: usize,
+        words: *mut u32, words_len: usize,
+        work: *mut i32, work_len: usize,
+        told: *mut u32,
+    );
+}
+
+/// No level has more faces or vertices than this, so room for as many is room for every answer.
+const MOST: usize = 32_768;
+
+fn threes<T: Copy>(list: &[T]) -> Vec<[T; 3]> {
+    list.chunks_exact(3).map(|c| [c[0], c[1], c[2]]).collect()
+}
+
+/// Whole micrometres. Every list of numbers gets a mesh or a refusal; nothing has to be checked beforehand.
+pub fn loop_subdivide_whole(levels: u32, indices: &[u32], coords: &[i32]) -> Result<Mesh, Refusal> {
+    let mut positions = vec![0i32; 3 * MOST];
+    let mut out = vec![0u32; 3 * MOST];
+    let mut words = vec![0u32; 24 * MOST];
+    let mut work = vec![0i32; 6 * MOST];
+    let mut told = [0u32; 5];
+    // SAFETY: each pointer goes with the length of the slice it comes from, and the call keeps to these lengths (its promise has no `requires`).
+    unsafe {
+        plates_loop_subdivide_whole(
+            levels,
+            indices.as_ptr(), indices.len(),
+            coords.as_ptr(), coords.len(),
+            positions.as_mut_ptr(), positions.len(),
+            out.as_mut_ptr(), out.len(),
+            words.as_mut_ptr(), words.len(),
+            work.as_mut_ptr(), work.len(),
+            told.as_mut_ptr(),
+        );
+    }
+    let [number, place, vertices, faces, rim_sides] = told;
+    if number != 0 {
+        return Err(Refusal { number, place });
+    }
+    positions.truncate(3 * vertices as usize);
+    out.truncate(3 * faces as usize);
+    Ok(Mesh { positions: threes(&positions), faces: threes(&out), rim_sides })
+}
+
+fn main() {
+    let triangle = [0, 0, 0, 8, 0, 0, 0, 8, 0];
+    match loop_subdivide_whole(1, &[0, 1, 2], &triangle) {
+        Ok(mesh) => {
+            println!("mesh {} {} {}", mesh.positions.len(), mesh.faces.len(), mesh.rim_sides);
+            mesh.positions.iter().for_each(|p| println!("v {} {} {}", p[0], p[1], p[2]));
+            mesh.faces.iter().for_each(|f| println!("f {} {} {}", f[0], f[1], f[2]));
+        }
+        Err(r) => println!("refused {} at {}", r.number, r.place),
+    }
+    for (levels, indices, coords) in [(8, vec![0, 1, 2], &triangle[..]), (0, vec![0, 1, 2, 0, 2, 1], &triangle[..]), (0, vec![0, 1, 3], &triangle[..]), (0, vec![], &[])] {
+        match loop_subdivide_whole(levels, &indices, coords) {
+            Ok(mesh) => println!("mesh {} {} {}", mesh.positions.len(), mesh.faces.len(), mesh.rim_sides),
+            Err(r) => println!("refused {} at {}", r.number, r.place),
+        }
+    }
+}
