@@ -16,7 +16,7 @@ use Rattle.rules.specs.Position.{Numbers, whole, single, exact}
 use Rattle.rules.specs.Levels.{coord, first, last, positions, exactLimits, Sizes, sizes, after}
 use Rattle.rules.specs.Sheets.{badSheet, sheetLevels, sheetIndices, sheetCoords, sheetOutcome}
 use Rattle.rules.specs.Tangents.{normals}
-use Rattle.rules.specs.Answers.{counted, unless, outcome, written, zeroed, workWords, workCoords}
+use Rattle.rules.specs.Answers.{answer, counted, unless, outcome, written, zeroed, workWords, workCoords}
 use Rattle.rules.specs.Refusals.{Room, check, when}
 use Rattle.rules.specs.declared.Refusal.{Refusal}
 use Rattle.rules.specs.declared.Counts.{Counts}
@@ -30,7 +30,7 @@ use Rattle.rules.proofs.Related.{same-mesh}
 use Rattle.rules.proofs.Spokes.{length-positions}
 use Rattle.loopsubdiv.proofs.Outcomes.{Done, done, WholeRoom, whole-room, single-room}
 use Rattle.sheet.specs.Calls.{Lent, Subdivided}
-use Rattle.promises.specs.Calls.{Buffers, buffers, Call, wholeRoom, WholeCall, singleRoom, SingleCall}
+use Rattle.promises.specs.Calls.{Buffers, buffers, Call, wholeRoom, WholeCall, singleRoom, SingleCall, WholeToC, SingleToC}
 
 same : {N : Type 0} {a b : Buffers N} → a .positions ≡ b .positions → a .indices ≡ b .indices → a .words ≡ b .words → a .work ≡ b .work → a ≡ b
 same {N} {a} {b} p i w k =
@@ -195,3 +195,17 @@ module _ (b : List ℕ) (ps : Lent ℤ) (is ws : Lent ℕ) (cs : Lent ℤ) where
       → Within (sheetLevels b + 1) (getD (ps .new) (3 * v + k) (pos 0)) (coord exact (exactLimits (sheetLevels b) (sheetIndices b) (sheetCoords b)) k v)
   demand-3-of-a-sheet c s v k h j =
       demand-3-of-the-call (sheetLevels b) (sheetIndices b) (sheetCoords b) (buffers (ps .old) (is .old) (ws .old) (cs .old)) c (buffers (ps .new) (is .new) (ws .new) (cs .new)) (call-of-a-sheet c s) v k h j
+
+-- ---- for C: two outcomes that are allowed are told alike
+
+pub one-outcome-to-C : (l : ℕ) (fs : List ℕ) (xs : List ℤ) (lent : Buffers ℤ) (told also : List ℕ) (left other : Buffers ℤ) → WholeToC l fs xs lent told left → WholeToC l fs xs lent also other
+    → told ≡ also × left ≡ other
+one-outcome-to-C l fs xs lent told also left other c d =
+    let o = one-outcome whole (wholeRoom lent) l fs xs lent (c .outcome) (d .outcome) left other (c .call) (d .call) in
+    (c .five ∙ ap {B = List ℕ} (λ a. answer a) (o .0) ∙ sym (d .five), o .1)
+
+pub one-outcome-to-C-with-normals : (l : ℕ) (fs : List ℕ) (xs : List Float) (lent : Buffers Float) (old : List Float) (told also : List ℕ) (left other : Buffers Float) (new newer : List Float)
+    → SingleToC l fs xs lent old told left new → SingleToC l fs xs lent old also other newer → told ≡ also × (left ≡ other × new ≡ newer)
+one-outcome-to-C-with-normals l fs xs lent old told also left other new newer c d =
+    let o = one-outcome-with-normals l fs xs lent old (c .outcome) (d .outcome) left other new newer (c .call) (d .call) in
+    (c .five ∙ ap {B = List ℕ} (λ a. answer a) (o .0) ∙ sym (d .five), o .1)

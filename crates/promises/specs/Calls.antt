@@ -10,7 +10,7 @@ use Rattle.rules.specs.Levels.{last}
 use Rattle.rules.specs.Levels.{positions as positionsOf}
 use Rattle.rules.specs.Tangents.{normals as normalsOf}
 use Rattle.rules.specs.Refusals.{Room}
-use Rattle.rules.specs.Answers.{outcome, wholeRooms, singleRooms, written, zeroed, workWords, workCoords}
+use Rattle.rules.specs.Answers.{answer, outcome, wholeRooms, singleRooms, written, zeroed, workWords, workCoords}
 use Rattle.rules.specs.declared.Counts.{Counts}
 use Rattle.rules.specs.declared.Outcome.{Outcome}
 
@@ -46,3 +46,15 @@ singleRoom b ns = singleRooms (length (b .positions)) (length ns) (length (b .in
 pub record SingleCall (l : ℕ) (fs : List ℕ) (xs : List Float) (lent : Buffers Float) (old : List Float) (r : Outcome) (left : Buffers Float) (new : List Float) : Type 0 where
   pub call : Call single (singleRoom lent old) l fs xs lent r left
   pub normals : new ≡ written r (normalsOf (last single l fs xs)) old
+
+-- ---- for C: an outcome that the call allows, told as 01's five numbers
+
+pub record WholeToC (l : ℕ) (fs : List ℕ) (xs : List ℤ) (lent : Buffers ℤ) (told : List ℕ) (left : Buffers ℤ) : Type 0 where
+  pub outcome : Outcome
+  pub call : WholeCall l fs xs lent outcome left
+  pub five : told ≡ answer outcome
+
+pub record SingleToC (l : ℕ) (fs : List ℕ) (xs : List Float) (lent : Buffers Float) (old : List Float) (told : List ℕ) (left : Buffers Float) (new : List Float) : Type 0 where
+  pub outcome : Outcome
+  pub call : SingleCall l fs xs lent old outcome left new
+  pub five : told ≡ answer outcome
