@@ -3,14 +3,11 @@ use mathlib.Core.Path.{_≡_, refl, sym, ap, ap₂, _∙_}
 use mathlib.Core.Logic.{_≢_}
 use Prim.Native.Nat.{ℕ, zero, suc, _+_, _*_, _≤_, _<_}
 use native.Mathlib.Omega.{arith}
-use mathlib.Core.Bool.{Bool}
-use mathlib.Core.List.{List, map}
+use mathlib.Core.List.{List}
 use mathlib.Core.Option.{Option, none, some}
-use lib.ListN.{length, getD, take, replicate, length-map}
-use lib.Seq.{length-sets, getD-take}
+use lib.ListN.{length, getD, length-map}
 use Rattle.lists.specs.Lists.{part}
-use Rattle.lists.proofs.Places.{getD-map}
-use Rattle.lists.proofs.Stores.{getD-part, part-of}
+use Rattle.lists.proofs.Stores.{getD-part}
 use Rattle.rules.specs.Mesh.{corner, links, Fan, inner, rim, endless, fan, valence, ring, Mesh}
 use Rattle.rules.proofs.Refine.{Good}
 use Rattle.rules.proofs.Faces.{link-below}
@@ -18,8 +15,7 @@ use Rattle.rules.proofs.Turns.{fan-ends}
 use Rattle.rules.proofs.Sound.{Sound}
 use Rattle.rules.proofs.Levels.{Small}
 use Rattle.faces.specs.Words.{linkOf, coded, linksIn, faceCount, Holds}
-use Rattle.faces.specs.Rings.{Walkable, Ringable, turnOf, valenceOf, vert, held, ringOf}
-use Rattle.faces.specs.declared.VertNo.{VertNo}
+use Rattle.faces.specs.Rings.{Walkable, Ringable, turnOf, valenceOf, ringOf}
 use Rattle.faces.specs.declared.Turn.the-variants as turn
 use Rattle.faces.proofs.Links.{getD-linksIn}
 use Rattle.faces.proofs.Trails.{endless-is}
@@ -86,6 +82,9 @@ module _ (w : List ℕ) (at n : ℕ) (m : Mesh) (h : Holds w at m) (g : Good (m 
   pub ringable : (s : ℕ) → s < 3 * n → valence (fan (links (m .faces)) s) ≤ 16 → Ringable w at (at + 3 * n) n s
   ringable s k v = record { walkable = walkable s k; room = omega (arith, room-held); few = rw (fan-held s) v }
 
+  pub ring-held : (s : ℕ) → ring (part at (3 * n) w) (fan (linksIn w (at + 3 * n) (3 * n)) s) ≡ ring (m .faces) (fan (links (m .faces)) s)
+  ring-held s = ap₂ ring faces-held (fan-held s)
+
   pub ring-of-held : (s : ℕ) → ringOf (part at (3 * n) w) (fan (linksIn w (at + 3 * n) (3 * n)) s) ≡ ringOf (m .faces) (fan (links (m .faces)) s)
   ring-of-held s = ap₂ ringOf faces-held (fan-held s)
 
@@ -105,11 +104,16 @@ module _ (w : List ℕ) (at n : ℕ) (m : Mesh) (h : Holds w at m) (p : Sound n 
   start-ringable few = ringable w at n m h (p .good) (getD w (at + 6 * n + v) 0) start-below (rw start-is (few v k))
 
   pub start-ring :
+      ring (part at (3 * n) w) (fan (linksIn w (at + 3 * n) (3 * n)) (getD w (at + 6 * n + v) 0)) ≡
+      ring (m .faces) (fan (links (m .faces)) (getD (m .starts) v 0))
+  start-ring = ring-held w at n m h (p .good) (getD w (at + 6 * n + v) 0) ∙ ap (λ (s : ℕ). ring (m .faces) (fan (links (m .faces)) s)) start-is
+
+  pub start-ring-of :
       ringOf (part at (3 * n) w) (fan (linksIn w (at + 3 * n) (3 * n)) (getD w (at + 6 * n + v) 0)) ≡
       ringOf (m .faces) (fan (links (m .faces)) (getD (m .starts) v 0))
-  start-ring = ring-of-held w at n m h (p .good) (getD w (at + 6 * n + v) 0) ∙ ap (λ (s : ℕ). ringOf (m .faces) (fan (links (m .faces)) s)) start-is
+  start-ring-of = ring-of-held w at n m h (p .good) (getD w (at + 6 * n + v) 0) ∙ ap (λ (s : ℕ). ringOf (m .faces) (fan (links (m .faces)) s)) start-is
 
--- ---- a turn has the valence of its fan, and so has a ring that is held by value
+-- ---- a turn has the valence of its fan, and so has a ring
 
 pub valence-turn : (f : Fan) → valenceOf (turnOf f) ≡ valence f
 valence-turn (inner cs) = refl
@@ -120,17 +124,3 @@ pub length-ring : (fs : List ℕ) (f : Fan) → length (ring fs f) ≡ valence f
 length-ring fs (inner cs) = length-map cs _
 length-ring fs (rim cs) = ap suc (length-map cs _)
 length-ring fs endless = refl
-
-module _ (vs : List ℕ) (b : Bool) where
-  pub held-length : length (held vs b .v) ≡ 16
-  held-length = length-sets (replicate 16 (vert 0)) 0 (map vert vs)
-
-  module _ (few : length vs ≤ 16) where
-    pub held-front : take (length vs) (held vs b .v) ≡ map vert vs
-    held-front = part-of (map vert vs) (replicate 16 (vert 0)) 0 (length vs) (length-map vs vert) (omega arith)
-
-    pub held-at : (k : ℕ) → k < length vs → getD (held vs b .v) k (vert 0) ≡ vert (getD vs k 0)
-    held-at k h =
-        sym (getD-take (length vs) (held vs b .v) k (vert 0) h)
-        ∙ ap (λ (l : List VertNo). getD l k (vert 0)) held-front
-        ∙ getD-map vert vs k 0 (vert 0) h

@@ -2,29 +2,28 @@
 use mathlib.Core.Path.{_≡_, sym, ap, ap₂, _∙_}
 use Prim.Native.Nat.{ℕ, _+_, _*_, _<_}
 use native.Mathlib.Omega.{arith}
-use native.Mathlib.Numerals.{add-one}
-use mathlib.Core.Bool.{Bool}
-use mathlib.Core.List.{List, map}
-use lib.ListN.{length, getD, set, take, replicate, length-map}
+use mathlib.Core.List.{List}
+use lib.ListN.{length, getD, set, take}
 use lib.Seq.{sets, take-all}
 use Rattle.lists.specs.Lists.{part}
 use Rattle.lists.proofs.Places.{getD-map}
-use Rattle.lists.proofs.Stores.{copy-more, getD-part}
+use Rattle.lists.proofs.Stores.{copy-more, copy-at, getD-part}
 use Rattle.rules.specs.Mesh.{onward, backward, corner}
 use Rattle.rules.proofs.Sides.{on-below}
 use Rattle.rules.proofs.Refine.{back-below}
-use Rattle.faces.specs.Rings.{vert, inners, rimmed, held}
-use Rattle.faces.specs.declared.Ring.{Ring}
-use Rattle.faces.specs.declared.VertNo.{VertNo}
+use Rattle.faces.specs.Rings.{inners, backs}
 
 -- one vertex more, and all of them
-pub store-more : (l : List VertNo) (vs : List ℕ) (n v : ℕ) → n < length vs → getD vs n 0 ≡ v → set (sets l 0 (take n (map vert vs))) n (vert v) ≡ sets l 0 (take (n + 1) (map vert vs))
-store-more l vs n v h e =
-    ap (λ (x : VertNo). set (sets l 0 (take n (map vert vs))) n x) (sym (getD-map vert vs n 0 (vert 0) h ∙ ap vert e))
-    ∙ copy-more l (map vert vs) n (vert 0) (rw (length-map vs vert) h)
+pub store-more : (l vs : List ℕ) (n v : ℕ) → n < length vs → getD vs n 0 ≡ v → set (sets l 0 (take n vs)) n v ≡ sets l 0 (take (n + 1) vs)
+store-more l vs n v h e = ap (λ (x : ℕ). set (sets l 0 (take n vs)) n x) (sym e) ∙ copy-more l vs n 0 h
 
-pub store-all : (l : List VertNo) (vs : List ℕ) (n : ℕ) → n ≡ length vs → sets l 0 (take n (map vert vs)) ≡ sets l 0 (map vert vs)
-store-all l vs n e = ap (sets l 0) (take-all n (map vert vs) (omega (arith, length-map vs vert)))
+-- the same after a first one, which stands by itself
+pub store-after : (l vs : List ℕ) (n v : ℕ) → n < length vs → getD vs n 0 ≡ v → set (sets l 1 (take n vs)) (n + 1) v ≡ sets l 1 (take (n + 1) vs)
+store-after l vs n v h e =
+    ap₂ (λ (k x : ℕ). set (sets l 1 (take n vs)) k x) (let k : n + 1 ≡ 1 + n = omega arith in k) (sym e) ∙ copy-at l vs 1 n 0 h
+
+pub store-all : (l vs : List ℕ) (at n : ℕ) → n ≡ length vs → sets l at (take n vs) ≡ sets l at vs
+store-all l vs at n e = ap (sets l at) (take-all n vs (omega arith))
 
 module _ (w : List ℕ) (at m : ℕ) (cs : List ℕ) (n x : ℕ) (h : n < length cs) (e : x ≡ getD cs n 0) (b : x < 3 * m) where
   pub inner-at : getD (inners (part at (3 * m) w) cs) n 0 ≡ getD w (at + onward x) 0
@@ -32,11 +31,7 @@ module _ (w : List ℕ) (at m : ℕ) (cs : List ℕ) (n x : ℕ) (h : n < length
       getD-map (λ s. corner (part at (3 * m) w) (onward s)) cs n 0 0 h ∙ ap (λ (s : ℕ). corner (part at (3 * m) w) (onward s)) (sym e)
       ∙ getD-part w at (3 * m) (onward x) 0 (on-below x m b)
 
-  pub rim-at : (f : ℕ) → getD (rimmed (part at (3 * m) w) f cs) (n + 1) 0 ≡ getD w (at + backward x) 0
-  rim-at f =
-      ap (λ (k : ℕ). getD (rimmed (part at (3 * m) w) f cs) k 0) (add-one n)
-      ∙ getD-map (λ s. corner (part at (3 * m) w) (backward s)) cs n 0 0 h ∙ ap (λ (s : ℕ). corner (part at (3 * m) w) (backward s)) (sym e)
+  pub back-at : getD (backs (part at (3 * m) w) cs) n 0 ≡ getD w (at + backward x) 0
+  back-at =
+      getD-map (λ s. corner (part at (3 * m) w) (backward s)) cs n 0 0 h ∙ ap (λ (s : ℕ). corner (part at (3 * m) w) (backward s)) (sym e)
       ∙ getD-part w at (3 * m) (backward x) 0 (back-below x m b)
-
-pub ring-held : (o : List VertNo) (vs : List ℕ) (n : ℕ) (b : Bool) → o ≡ sets (replicate 16 (vert 0)) 0 (map vert vs) → n ≡ length vs → _≡_ {A = Ring} (record { v = o; n = n; rim = b }) (held vs b)
-ring-held o vs n b p q = ap₂ (λ (x : List VertNo) (k : ℕ). (let r : Ring = record { v = x; n = k; rim = b } in r)) p q

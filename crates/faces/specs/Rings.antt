@@ -3,8 +3,7 @@ use Prim.Native.Nat.{ℕ, suc, _+_, _*_, _≤_, _<_}
 use mathlib.Core.Logic.{_≢_}
 use mathlib.Core.Bool.{Bool, true, false}
 use mathlib.Core.List.{List, _∷_, map}
-use lib.ListN.{length, getD, replicate}
-use lib.Seq.{sets}
+use lib.ListN.{length, getD}
 use Rattle.lists.specs.Lists.{lastOf}
 use Rattle.rules.specs.Mesh as mesh
 use Rattle.rules.specs.Mesh.{onward, backward, corner, Walk, walk, passed, stopOf, Stop, Fan, inner, rim, endless, fan, valence, ring}
@@ -78,12 +77,12 @@ vert v = record { 0 = v }
 abbrev pub inners : List ℕ → List ℕ → List ℕ
 inners fs cs = map (λ s. corner fs (onward s)) cs
 
+abbrev pub backs : List ℕ → List ℕ → List ℕ
+backs fs cs = map (λ s. corner fs (backward s)) cs
+
 abbrev pub rimmed : List ℕ → ℕ → List ℕ → List ℕ
-rimmed fs e cs = corner fs (onward e) ∷ map (λ s. corner fs (backward s)) cs
+rimmed fs e cs = corner fs (onward e) ∷ backs fs cs
 
--- sixteen places, a ring first; vertex 0 stands in the others
-abbrev pub held : List ℕ → Bool → Ring
-held vs b = record { v = sets (replicate 16 (vert 0)) 0 (map vert vs); n = length vs; rim = b }
-
+-- how many are in a ring, and of which kind
 abbrev pub ringOf : List ℕ → Fan → Ring
-ringOf fs f = held (ring fs f) (isRim f)
+ringOf fs f = record { n = length (ring fs f); rim = isRim f }

@@ -1,16 +1,16 @@
 // Document 01, modules 2 and 3: faces, and the ring of a vertex. A vertex's place in a face is a side number s = 3 f + k, as in crate `rules`.
 ghost use mathlib.Core.Path.{_≡_};
-ghost use mathlib.Core.Bool.{true, false};
 ghost use mathlib.Core.Option.{some};
-ghost use Prim.Native.Nat.{ℕ, _+_, _*_, _≤_, _<_};
+ghost use Prim.Native.Nat.{ℕ, _+_, _-_, _*_, _≤_, _<_};
 ghost use lib.ListN.{length, getD};
+ghost use lib.Seq.{sets};
 ghost use Rattle.lists.specs.Lists.{part};
 ghost use Rattle.rules.specs.Mesh as mesh;
 ghost use Rattle.faces.specs.declared.Across.the-variants as across;
 ghost use Rattle.faces.specs.declared.Vert.the-variants as vert;
 ghost use Rattle.faces.specs.Faces.{at, ofLink, faceLink, faceAt, vnumOf, nextFaceOf, prevFaceOf, nextVertOf, prevVertOf, unless, otherVertOf};
 ghost use Rattle.faces.specs.Words.{linkOf, linksIn};
-ghost use Rattle.faces.specs.Rings.{Walkable, Ringable, Ends, stepOf, tripOf, rimTurn, turnOf, valenceOf, inners, rimmed, held, ringOf};
+ghost use Rattle.faces.specs.Rings.{Walkable, Ringable, Ends, stepOf, tripOf, rimTurn, turnOf, valenceOf, inners, rimmed, ringOf};
 
 // A vertex number and a face number are distinct kinds.
 pub struct VertNo(pub u32);
@@ -191,9 +191,8 @@ pub fn load(words: &[u32], corners: usize, links: usize, f: FaceNo) -> Face
     }
 }
 
-// The ring of a vertex, held by value: the first n are its neighbours, in the order of 01's rule for an inner or a rim vertex.
+// The ring of a vertex: the first n of the numbers that were lent for it are its neighbours, in the order of 01's rule for an inner or a rim vertex.
 pub struct Ring {
-    pub v: [VertNo; 16],
     pub n: usize,
     pub rim: bool,
 }
@@ -227,16 +226,24 @@ fn step_to(home: usize, t: usize) -> Step
     if t == home { Step::Home } else { Step::Here(t) }
 }
 
+// `onward` of the side that link word w leads to, in fewer steps: the walks wait on it.
+fn after(w: u32) -> u32
+    requires { ⌜ 0 < w ⌝ }
+    ensures { λ r. ⌜ r ≡ mesh.onward (w - 1) ⌝ }
+{
+    if w % 3 == 0 { w - 3 } else { w }
+}
+
 // `next_face`: across the side that leaves the vertex.
 fn next_corner(words: &[u32], links: usize, home: usize, s: usize) -> Step
     requires { ⌜ links + s < length (now words) ⌝ }
     ensures { λ r. ⌜ r ≡ stepOf (mesh.stepTo home (mesh.through mesh.onward (linkOf (getD (now (words .entry)) (links + s) 0)))) ⌝ }
 {
-    let t = words[links + s] as usize;
-    if t == 0 {
+    let w = words[links + s];
+    if w == 0 {
         return Step::Off;
     }
-    step_to(home, onward(t - 1))
+    step_to(home, after(w) as usize)
 }
 
 // `prev_face`: across the side that comes to it.
@@ -353,17 +360,23 @@ pub fn valence(t: Turn) -> usize
     }
 }
 
-// The ring of an inner vertex: `next_vert` of each face, by `next_face` from corner s until it is back.
-fn inner_ring(words: &[u32], corners: usize, links: usize, nf: usize, s: usize) -> Ring
-    requires { ⌜ Walkable (now words) links nf s × (corners + 3 * nf ≤ length (now words)) × Ends (mesh.nextCorner (linksIn (now words) links (3 * nf)) s) nf s 16 ⌝ }
-    ensures { λ r. ⌜ r ≡ held (inners (part corners (3 * nf) (now (words .entry))) (mesh.passed (mesh.walk (mesh.nextCorner (linksIn (now (words .entry)) links (3 * nf)) s) nf (mesh.here s)))) false ⌝ }
+// The ring of an inner vertex: `next_vert` of each face, by `next_face` from corner s until it is back. How many there are.
+fn inner_ring(
+    words: &[u32],
+    corners: usize,
+    links: usize,
+    nf: usize,
+    s: usize,
+    out: &mut [u32],
+) -> usize
+    requires { ⌜ Walkable (now words) links nf s × (corners + 3 * nf ≤ length (now words)) × Ends (mesh.nextCorner (linksIn (now words) links (3 * nf)) s) nf s (length (now out)) ⌝ }
+    ensures count { λ r. ⌜ r ≡ length (inners (part corners (3 * nf) (now (words .entry))) (mesh.passed (mesh.walk (mesh.nextCorner (linksIn (now (words .entry)) links (3 * nf)) s) nf (mesh.here s)))) ⌝ }
+    ensures ring { λ r. ⌜ now (out .exit) ≡ sets (now (out .entry)) 0 (inners (part corners (3 * nf) (now (words .entry))) (mesh.passed (mesh.walk (mesh.nextCorner (linksIn (now (words .entry)) links (3 * nf)) s) nf (mesh.here s)))) ⌝ }
 {
-    let none = VertNo(0);
-    let mut out = [none; 16];
     let mut at = s;
     let mut n: usize = 0;
     loop {
-        out[n] = VertNo(words[corners + onward(at)]);
+        out[n] = words[corners + onward(at)];
         n = n + 1;
         match next_corner(words, links, s, at) {
             Step::Home => {
@@ -377,26 +390,28 @@ fn inner_ring(words: &[u32], corners: usize, links: usize, nf: usize, s: usize) 
             }
         }
     }
-    Ring {
-        v: out,
-        n: n,
-        rim: false,
-    }
+    n
 }
 
-// The ring of a rim vertex: `next_vert` of the face at its end corner, then `prev_vert` of each face by `prev_face`.
-fn rim_ring(words: &[u32], corners: usize, links: usize, nf: usize, end: usize) -> Ring
-    requires { ⌜ Walkable (now words) links nf end × (corners + 3 * nf ≤ length (now words)) × Ends (mesh.prevCorner (linksIn (now words) links (3 * nf)) end) nf end 15 ⌝ }
-    ensures { λ r. ⌜ r ≡ held (rimmed (part corners (3 * nf) (now (words .entry))) end (mesh.passed (mesh.walk (mesh.prevCorner (linksIn (now (words .entry)) links (3 * nf)) end) nf (mesh.here end)))) true ⌝ }
+// The ring of a rim vertex: `next_vert` of the face at its end corner, then `prev_vert` of each face by `prev_face`. How many there are.
+fn rim_ring(
+    words: &[u32],
+    corners: usize,
+    links: usize,
+    nf: usize,
+    end: usize,
+    out: &mut [u32],
+) -> usize
+    requires { ⌜ Walkable (now words) links nf end × (corners + 3 * nf ≤ length (now words)) × Ends (mesh.prevCorner (linksIn (now words) links (3 * nf)) end) nf end (length (now out) - 1) ⌝ }
+    ensures count { λ r. ⌜ r ≡ length (rimmed (part corners (3 * nf) (now (words .entry))) end (mesh.passed (mesh.walk (mesh.prevCorner (linksIn (now (words .entry)) links (3 * nf)) end) nf (mesh.here end)))) ⌝ }
+    ensures ring { λ r. ⌜ now (out .exit) ≡ sets (now (out .entry)) 0 (rimmed (part corners (3 * nf) (now (words .entry))) end (mesh.passed (mesh.walk (mesh.prevCorner (linksIn (now (words .entry)) links (3 * nf)) end) nf (mesh.here end)))) ⌝ }
 {
-    let none = VertNo(0);
-    let mut out = [none; 16];
-    out[0] = VertNo(words[corners + onward(end)]);
+    out[0] = words[corners + onward(end)];
     let mut at = end;
     let mut n: usize = 0;
     loop {
         n = n + 1;
-        out[n] = VertNo(words[corners + backward(at)]);
+        out[n] = words[corners + backward(at)];
         match prev_corner(words, links, end, at) {
             Step::Home => {
                 break;
@@ -409,28 +424,31 @@ fn rim_ring(words: &[u32], corners: usize, links: usize, nf: usize, end: usize) 
             }
         }
     }
-    Ring {
-        v: out,
-        n: n + 1,
-        rim: true,
-    }
+    n + 1
 }
 
-// The ring of the vertex of corner s.
-pub fn one_ring(words: &[u32], corners: usize, links: usize, nf: usize, s: usize) -> Ring
-    requires { ⌜ Ringable (now words) corners links nf s ⌝ }
-    ensures { λ r. ⌜ r ≡ ringOf (part corners (3 * nf) (now (words .entry))) (mesh.fan (linksIn (now (words .entry)) links (3 * nf)) s) ⌝ }
+// The ring of the vertex of corner s, into the front of `out`.
+pub fn one_ring(
+    words: &[u32],
+    corners: usize,
+    links: usize,
+    nf: usize,
+    s: usize,
+    out: &mut [u32],
+) -> Ring
+    requires { ⌜ Ringable (now words) corners links nf s × (16 ≤ length (now out)) ⌝ }
+    ensures ring { λ r. ⌜ r ≡ ringOf (part corners (3 * nf) (now (words .entry))) (mesh.fan (linksIn (now (words .entry)) links (3 * nf)) s) ⌝ }
+    ensures out { λ r. ⌜ now (out .exit) ≡ sets (now (out .entry)) 0 (mesh.ring (part corners (3 * nf) (now (words .entry))) (mesh.fan (linksIn (now (words .entry)) links (3 * nf)) s)) ⌝ }
 {
     match turn_round(words, links, nf, s) {
-        Turn::Inner(_) => inner_ring(words, corners, links, nf, s),
-        Turn::Rim(_, end) => rim_ring(words, corners, links, nf, end),
-        Turn::Endless => {
-            let none = VertNo(0);
-            Ring {
-                v: [none; 16],
-                n: 0,
-                rim: false,
-            }
-        }
+        Turn::Inner(_) => Ring {
+            n: inner_ring(words, corners, links, nf, s, out),
+            rim: false,
+        },
+        Turn::Rim(_, end) => Ring {
+            n: rim_ring(words, corners, links, nf, end, out),
+            rim: true,
+        },
+        Turn::Endless => Ring { n: 0, rim: false },
     }
 }

@@ -1,11 +1,15 @@
 use denote.Ref.{now}
 use mathlib.Core.Path.{sym, ap, _∙_}
-use Prim.Native.Nat.{ℕ, _*_}
-use mathlib.Core.Bool.{true}
+use mathlib.Core.Bool.{Bool, true, false}
+use Prim.Native.Nat.{ℕ, _-_, _*_}
+use native.Mathlib.Omega.{arith}
+use lib.ListN.{length}
+use lib.Seq.{sets}
 use Rattle.lists.specs.Lists.{part}
-use Rattle.rules.specs.Mesh.{here, walk, passed, prevCorner, fan}
+use Rattle.rules.specs.Mesh.{Fan, here, walk, passed, prevCorner, fan, ring}
 use Rattle.faces.specs.Words.{linksIn}
-use Rattle.faces.specs.Rings.{rimmed, held, ringOf}
+use Rattle.faces.specs.Rings.{rimmed, ringOf}
+use Rattle.faces.specs.declared.Ring.{Ring}
 use Rattle.faces.proofs.Trips.{first-passed}
 use Rattle.faces.proofs.Trails.{faces-in, filled, from-corner, last-below, IsInner, IsRim, inner-is, rim-is, endless-is, inner-ends, rim-ends}
 use borrow.Author.Needs.{needs}
@@ -19,69 +23,86 @@ enum-told : tie.Need-enum-told
 enum-told c = search needs
 
 -- the fan, where the turn is inner, and where it is at the rim
-inner-fan : (k : tie.After-enum-told) → (let a = k .before .before .before .before .args in IsInner (linksIn (now (a .words)) (a .links) (3 * a .nf)) (a .nf) (a .s))
+inner-fan : (k : tie.After-enum-told) → (let a = k .before .before .before .before .before .args in IsInner (linksIn (now (a .words)) (a .links) (3 * a .nf)) (a .nf) (a .s))
 inner-fan k =
-    let a = k .before .before .before .before .args in
-    let p = k .before .before .before .before .pre .walkable in
+    let a = k .before .before .before .before .before .args in
+    let p = k .before .before .before .before .before .pre .0 .walkable in
     inner-is (linksIn (now (a .words)) (a .links) (3 * a .nf)) (a .nf) (a .s) (faces-in (now (a .words)) (a .links) (a .nf) (a .s) p)
     (k .enum-told .given .0 .0) (sym (k .before .before .turn-round .ensures) ∙ k .enum-told .given .1)
 
-rim-fan : (k : tie.After-end) → (let a = k .before .before .before .before .args in IsRim (linksIn (now (a .words)) (a .links) (3 * a .nf)) (a .nf) (a .s) (k .end .given .0 .1 .0))
+rim-fan : (k : tie.After-end) → (let a = k .before .before .before .before .before .args in IsRim (linksIn (now (a .words)) (a .links) (3 * a .nf)) (a .nf) (a .s) (k .end .given .0 .1 .0))
 rim-fan k =
-    let a = k .before .before .before .before .args in
-    let p = k .before .before .before .before .pre .walkable in
+    let a = k .before .before .before .before .before .args in
+    let p = k .before .before .before .before .before .pre .0 .walkable in
     rim-is (linksIn (now (a .words)) (a .links) (3 * a .nf)) (a .nf) (a .s) (faces-in (now (a .words)) (a .links) (a .nf) (a .s) p) (filled (now (a .words)) (a .links) (a .nf) (a .s) p)
     (k .end .given .0 .0) (k .end .given .0 .1 .0) (sym (k .before .before .turn-round .ensures) ∙ k .end .given .1)
 
 inner-ring-requires : tie.Need-inner-ring-requires
 inner-ring-requires c κs =
-    let a = c .before .before .before .before .args in
-    let p = c .before .before .before .before .pre in
-    (p .walkable, p .room, inner-ends (linksIn (now (a .words)) (a .links) (3 * a .nf)) (a .nf) (a .s) 16 (inner-fan c) (p .few))
+    let k = c .before in
+    let a = k .before .before .before .before .before .args in
+    let p = k .before .before .before .before .before .pre in
+    (p .0 .walkable, p .0 .room, inner-ends (linksIn (now (a .words)) (a .links) (3 * a .nf)) (a .nf) (a .s) (length (now (a .out))) (inner-fan k) (omega (arith, p .0 .few)))
 
 enum-known-end : tie.Need-enum-known-end
 enum-known-end c = search needs
 
 rim-ring-requires : tie.Need-rim-ring-requires
 rim-ring-requires c κs =
-    let k = c .before in
-    let a = k .before .before .before .before .args in
-    let p = k .before .before .before .before .pre in
+    let k = c .before .before in
+    let a = k .before .before .before .before .before .args in
+    let p = k .before .before .before .before .before .pre in
     let w = now (a .words) in
     let e = k .end .given .0 .1 .0 in
     let i = rim-fan k in (
-      from-corner w (a .links) (a .nf) (a .s) (p .walkable) e (rw (← i .end) (last-below w (a .links) (a .nf) (a .s) (p .walkable))),
-      p .room,
-      rim-ends (linksIn w (a .links) (3 * a .nf)) (a .nf) (a .s) e 15 i (p .few),
+      from-corner w (a .links) (a .nf) (a .s) (p .0 .walkable) e (rw (← i .end) (last-below w (a .links) (a .nf) (a .s) (p .0 .walkable))),
+      p .0 .room,
+      rim-ends (linksIn w (a .links) (3 * a .nf)) (a .nf) (a .s) e (length (now (a .out)) - 1) i (omega (arith, p .0 .few)),
     )
 
 enum-told-2 : tie.Need-enum-told-2
 enum-told-2 c = search needs
 
+same-length : tie.Need-same-length
+same-length c = search needs
+
+same-length-2 : tie.Need-same-length-2
+same-length-2 c = search needs
+
+abbrev counted : ℕ → Bool → Ring
+counted n b = record { n = n; rim = b }
+
 returns : tie.Need-returns
 returns c =
-    let a = c .before .before .before .before .before .args in
-    c .inner-ring .ensures ∙ sym (ap (ringOf (part (a .corners) (3 * a .nf) (now (a .words)))) (inner-fan (c .before) .is))
+    let k = c .before .before in
+    let t = k .before .before in
+    let a = t .before .before .before .before .before .args in
+    let fs = part (a .corners) (3 * a .nf) (now (a .words)) in
+    (ap (λ (n : ℕ). counted n false) (k .inner-ring .ensures .0) ∙ sym (ap (ringOf fs) (inner-fan t .is)), k .inner-ring .ensures .1 ∙ sym (ap (λ (f : Fan). sets (now (a .out)) 0 (ring fs f)) (inner-fan t .is)))
 
 returns-2 : tie.Need-returns-2
 returns-2 c =
     let k = c .before .before in
-    let a = k .before .before .before .before .args in
-    let p = k .before .before .before .before .pre in
+    let t = k .before .before .before in
+    let a = t .before .before .before .before .before .args in
+    let p = t .before .before .before .before .before .pre in
     let w = now (a .words) in
     let fs = part (a .corners) (3 * a .nf) w in
-    let e = k .end .given .0 .1 .0 in
+    let e = t .end .given .0 .1 .0 in
     let next = prevCorner (linksIn w (a .links) (3 * a .nf)) e in
-    let cs = passed (walk next (a .nf) (here e)) in
-    c .rim-ring .ensures
-    ∙ ap (λ (z : ℕ). held (rimmed fs z cs) true) (sym (first-passed next (a .nf) e (filled w (a .links) (a .nf) (a .s) (p .walkable))))
-    ∙ sym (ap (ringOf fs) (rim-fan k .is))
+    let cs = passed (walk next (a .nf) (here e)) in (
+      ap (λ (n : ℕ). counted n true) (k .rim-ring .ensures .0) ∙ sym (ap (ringOf fs) (rim-fan t .is)),
+      k .rim-ring .ensures .1
+          ∙ ap (λ (z : ℕ). sets (now (a .out)) 0 (rimmed fs z cs)) (sym (first-passed next (a .nf) e (filled w (a .links) (a .nf) (a .s) (p .0 .walkable))))
+          ∙ sym (ap (λ (f : Fan). sets (now (a .out)) 0 (ring fs f)) (rim-fan t .is)),
+    )
 
 returns-3 : tie.Need-returns-3
 returns-3 c =
-    let a = c .before .before .before .before .args in
-    let f = fan (linksIn (now (a .words)) (a .links) (3 * a .nf)) (a .s) in
-    sym (ap (ringOf (part (a .corners) (3 * a .nf) (now (a .words)))) (endless-is f (sym (c .before .before .turn-round .ensures) ∙ c .enum-told2 .given .1)))
+    let a = c .before .before .before .before .before .args in
+    let fs = part (a .corners) (3 * a .nf) (now (a .words)) in
+    let e = endless-is (fan (linksIn (now (a .words)) (a .links) (3 * a .nf)) (a .s)) (sym (c .before .before .turn-round .ensures) ∙ c .enum-told2 .given .1) in
+    (sym (ap (ringOf fs) e), sym (ap (λ (f : Fan). sets (now (a .out)) 0 (ring fs f)) e))
 
 pub one-ring-spec : {M : Type 1} → statement M
 one-ring-spec =
@@ -93,6 +114,8 @@ one-ring-spec =
     enum-known-end
     rim-ring-requires
     enum-told-2
+    same-length
     returns
+    same-length-2
     returns-2
     returns-3)
