@@ -1,14 +1,14 @@
 -- The f32 constants of the code as the fractions that 01 names, each computed; and points added to a point one at a time. Assumes nothing.
 use mathlib.Core.Path.{_≡_, refl, ap, _∙_}
 use mathlib.Core.List.{List, [], _∷_, _++_, map}
-use Prim.Native.Nat.{ℕ, suc, _≤_, _<_}
+use Prim.Native.Nat.{ℕ, suc, _<_}
 use lib.ListN.{length, getD, take, length-map}
-use lib.Seq.{take-suc, length-take-le}
+use lib.Seq.{take-suc}
 use lib.Ieee.{Float, binary32, sub, mul, div, ofBits, ofInt}
 use Rattle.vectors.specs.declared.Vec3.{Vec3}
 use Rattle.vectors.specs.Vectors.{plus, scaled}
-use Rattle.rules.specs.Position.{f32, ownWeight, onto}
-use Rattle.weights.specs.Weights.{alike, ringPoint}
+use Rattle.rules.specs.Position.{f32, ownWeight, onto, weighed}
+use Rattle.weights.specs.Weights.{alike}
 
 pub one : ofBits binary32 0x3f80_0000 ≡ f32 1
 unfolding ofBits ofInt
@@ -65,7 +65,7 @@ pub next : (b : Float) (p : Vec3) (ring : List Vec3) (i : ℕ) (d : Vec3) → i 
 next b p ring i d h = ap (alike (onto b) p) (take-suc ring i d h) ∙ more b p (take i ring) (getD ring i d)
 
 -- the own weight stands before the ring
-pub ring-is : (b : Float) (p : Vec3) (ring : List Vec3) (n : ℕ) → n ≤ length ring → alike (onto b) (scaled p (ownWeight b n)) (take n ring) ≡ ringPoint b p ring n
+pub ring-is : (b : Float) (p : Vec3) (ring : List Vec3) (n : ℕ) → length ring ≡ n → alike (onto b) (scaled p (ownWeight b n)) ring ≡ alike (weighed b) p ring
 ring-is b p ring n h =
-    let e : (f : Vec3 → Float) → length (map f (take n ring)) ≡ n = λ f. length-map (take n ring) f ∙ length-take-le n ring h in
+    let e : (f : Vec3 → Float) → length (map f ring) ≡ n = λ f. length-map ring f ∙ h in
     simp (e (λ q. q .x), e (λ q. q .y), e (λ q. q .z))

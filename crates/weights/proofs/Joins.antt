@@ -1,49 +1,32 @@
--- What the rules give over a ring held by value is what document 01's rules give over the fan that it was taken from. For both kinds of number. Assumes nothing.
-use mathlib.Core.Path.{_≡_, refl, ap, _∙_}
+-- What the rules give over a ring is what document 01's rules give over the fan that it was taken from. For both kinds of number. Assumes nothing.
+use mathlib.Core.Path.{_≡_, refl, ap}
 use mathlib.Core.Logic.{_≢_}
 use Prim.Native.Nat.{ℕ, zero, suc, _+_, _*_, _≤_, _<_}
 use native.Mathlib.Omega.{arith}
-use mathlib.Core.Bool.{Bool, true, false}
-use mathlib.Core.List.{List, [], _∷_, map}
+use mathlib.Core.List.{List, map}
 use mathlib.Core.Option.{none, some}
-use lib.ListN.{length, getD, take, length-map}
+use lib.ListN.{length, getD, length-map}
 use lib.IntN.{ℤ}
 use lib.Ieee.{Float}
 use Rattle.lists.proofs.Places.{getD-map}
-use Rattle.rules.specs.Mesh.{onward, backward, corner, links, Fan, inner, rim, endless, fan, valence, ring, Mesh}
-use Rattle.rules.specs.Position.{Stage, ringRule, rimRule, Numbers}
-use Rattle.rules.specs.Levels.{ends, coord, three, blended, moved, edgeAt}
+use Rattle.rules.specs.Mesh.{onward, backward, corner, links, Fan, inner, rim, endless, fan, ring, Mesh}
+use Rattle.rules.specs.Position.{Stage, ringRule, Numbers}
+use Rattle.rules.specs.Levels.{coord, three, blended, moved, edgeAt}
 use Rattle.rules.proofs.Sides.{on-below}
 use Rattle.rules.proofs.Refine.{Good, back-below}
 use Rattle.rules.proofs.Turns.{Turned, round, fringe, turned, fan-ends}
 use Rattle.rules.proofs.Sound.{Sound}
 use Rattle.rules.proofs.Levels.{Small}
 use Rattle.rules.proofs.Range.{AllNear}
-use Rattle.faces.specs.Rings.{vert, held, ringOf}
-use Rattle.faces.specs.declared.Ring.{Ring}
-use Rattle.faces.proofs.Held.{length-ring, held-front, held-at}
-use Rattle.weights.specs.Lent.{numbers, byRing, onRim, within, There, AllThere, Readable, AllReadable}
-
--- ---- the vertices of a ring that is held
-
-numbers-vert : (vs : List ℕ) → numbers (map vert vs) ≡ vs
-numbers-vert [] = refl
-numbers-vert (v ∷ vs) = ap (λ (l : List ℕ). v ∷ l) (numbers-vert vs)
-
-pub numbers-held : (vs : List ℕ) (b : Bool) → length vs ≤ 16 → numbers (take (length vs) (held vs b .v)) ≡ vs
-numbers-held vs b h = ap numbers (held-front vs b h) ∙ numbers-vert vs
+use Rattle.faces.specs.Rings.{isRim}
+use Rattle.faces.proofs.Held.{length-ring}
+use Rattle.weights.specs.Lent.{byRing, onRim, within, There, AllThere, Readable, AllReadable}
 
 module _ (𝓝 : Numbers) (s : Stage) (fs : List ℕ) (xs : List (𝓝 .N)) (u : ℕ) where
-  by-fan : (f : Fan) → valence f ≤ 16 → f ≢ endless → (c : ℕ) → byRing 𝓝 s xs u (ringOf fs f) c ≡ blended 𝓝 s fs xs u f c
-  by-fan (inner cs) few e c =
-      let vs = ring fs (inner cs) in
-      let n = length-ring fs (inner cs) in
-      ap (λ (l : List ℕ). 𝓝 .blend (ringRule s (length vs)) (coord 𝓝 xs c u) (map (coord 𝓝 xs c) l)) (numbers-held vs false (rw n few))
-      ∙ ap (λ (k : ℕ). 𝓝 .blend (ringRule s k) (coord 𝓝 xs c u) (map (coord 𝓝 xs c) vs)) n
-  by-fan (rim cs) few e c =
-      let vs = ring fs (rim cs) in
-      ap (λ (l : List ℕ). 𝓝 .blend (rimRule s) (coord 𝓝 xs c u) (map (coord 𝓝 xs c) (ends l))) (numbers-held vs true (rw (length-ring fs (rim cs)) few))
-  by-fan endless few e c = absurd (e refl)
+  by-fan : (f : Fan) → f ≢ endless → (c : ℕ) → byRing 𝓝 s xs u (isRim f) (ring fs f) c ≡ blended 𝓝 s fs xs u f c
+  by-fan (inner cs) e c = ap (λ (k : ℕ). 𝓝 .blend (ringRule s k) (coord 𝓝 xs c u) (map (coord 𝓝 xs c) (ring fs (inner cs)))) (length-ring fs (inner cs))
+  by-fan (rim cs) e c = refl
+  by-fan endless e c = absurd (e refl)
 
   three-by : (f g : ℕ → 𝓝 .N) → ((c : ℕ) → f c ≡ g c) → three 𝓝 f ≡ three 𝓝 g
   three-by f g e = rw (e 0, e 1, e 2)
@@ -66,8 +49,11 @@ module _ (v n : ℕ) (fs : List ℕ) (g : Good v n fs) (s : ℕ) where
 
 -- ---- the ring of vertex u of a mesh that the checks have passed
 
-abbrev pub ringAt : Mesh → ℕ → Ring
-ringAt m u = ringOf (m .faces) (fan (links (m .faces)) (getD (m .starts) u 0))
+abbrev pub fanAt : Mesh → ℕ → Fan
+fanAt m u = fan (links (m .faces)) (getD (m .starts) u 0)
+
+abbrev pub ringAt : Mesh → ℕ → List ℕ
+ringAt m u = ring (m .faces) (fanAt m u)
 
 pub readable : {xs : List ℤ} {v u : ℕ} → 3 * v ≤ length xs → AllNear xs → u < v → Readable xs u
 readable {u} l a h = record { room = omega arith; near = λ c k. a .at (3 * u + c) }
@@ -76,36 +62,30 @@ pub there : {xs : List Float} {v u : ℕ} → 3 * v ≤ length xs → u < v → 
 there l h = record { room = omega arith }
 
 module _ (n : ℕ) (m : Mesh) (p : Sound n m) (few : Small 16 m) (u : ℕ) (h : u < m .verts) where
-  small : valence (fan (links (m .faces)) (getD (m .starts) u 0)) ≤ 16
-  unfolding Small
-  small = few u h
-
-  turns : Turned n (m .faces) (getD (m .starts) u 0) (fan (links (m .faces)) (getD (m .starts) u 0))
+  turns : Turned n (m .faces) (getD (m .starts) u 0) (fanAt m u)
   turns = turned (m .verts) n (m .faces) (p .good) (getD (m .starts) u 0) (p .below u h)
 
-  pub ring-filled : 0 < ringAt m u .n
-  ring-filled = filled (m .verts) n (m .faces) (p .good) (getD (m .starts) u 0) (fan (links (m .faces)) (getD (m .starts) u 0)) turns
+  pub ring-filled : 0 < length (ringAt m u)
+  ring-filled = filled (m .verts) n (m .faces) (p .good) (getD (m .starts) u 0) (fanAt m u) turns
 
-  pub ring-few : ringAt m u .n ≤ 16
-  ring-few = rw (length-ring (m .faces) (fan (links (m .faces)) (getD (m .starts) u 0))) small
+  pub ring-few : length (ringAt m u) ≤ 16
+  unfolding Small
+  ring-few = rw (length-ring (m .faces) (fanAt m u)) (few u h)
 
-  pub ring-below : (k : ℕ) → k < ringAt m u .n → getD (ringAt m u .v) k (vert 0) .0 < m .verts
-  ring-below k l =
-      let f = fan (links (m .faces)) (getD (m .starts) u 0) in
-      rw (held-at (ring (m .faces) f) (ringAt m u .rim) ring-few k l) (below (m .verts) n (m .faces) (p .good) (getD (m .starts) u 0) f turns k l)
+  ring-below : (k : ℕ) → k < length (ringAt m u) → getD (ringAt m u) k 0 < m .verts
+  ring-below k l = below (m .verts) n (m .faces) (p .good) (getD (m .starts) u 0) (fanAt m u) turns k l
 
-  pub ring-readable : {xs : List ℤ} → 3 * m .verts ≤ length xs → AllNear xs → AllReadable xs (ringAt m u .v) (ringAt m u .n)
+  pub ring-readable : {xs : List ℤ} → 3 * m .verts ≤ length xs → AllNear xs → AllReadable xs (ringAt m u)
   ring-readable l a = record { few = ring-few; at = λ k q. readable l a (ring-below k q) }
 
-  pub ring-there : {xs : List Float} → 3 * m .verts ≤ length xs → AllThere xs (ringAt m u .v) (ringAt m u .n)
+  pub ring-there : {xs : List Float} → 3 * m .verts ≤ length xs → AllThere xs (ringAt m u)
   ring-there l = record { few = ring-few; at = λ k q. there l (ring-below k q) }
 
-  pub moved-by : (𝓝 : Numbers) (s : Stage) (xs : List (𝓝 .N)) → three 𝓝 (byRing 𝓝 s xs u (ringAt m u)) ≡ moved 𝓝 s m (links (m .faces)) xs u
+  pub moved-by : (𝓝 : Numbers) (s : Stage) (xs : List (𝓝 .N)) → three 𝓝 (byRing 𝓝 s xs u (isRim (fanAt m u)) (ringAt m u)) ≡ moved 𝓝 s m (links (m .faces)) xs u
   unfolding moved
   moved-by 𝓝 s xs =
-      let f = fan (links (m .faces)) (getD (m .starts) u 0) in
-      three-by 𝓝 s (m .faces) xs u (byRing 𝓝 s xs u (ringAt m u)) (blended 𝓝 s (m .faces) xs u f)
-      (by-fan 𝓝 s (m .faces) xs u f small (fan-ends (m .verts) n (m .faces) (p .good) (getD (m .starts) u 0) (p .below u h)))
+      three-by 𝓝 s (m .faces) xs u (byRing 𝓝 s xs u (isRim (fanAt m u)) (ringAt m u)) (blended 𝓝 s (m .faces) xs u (fanAt m u))
+      (by-fan 𝓝 s (m .faces) xs u (fanAt m u) (fan-ends (m .verts) n (m .faces) (p .good) (getD (m .starts) u 0) (p .below u h)))
 
 -- ---- the edge of side s
 module _ (𝓝 : Numbers) (fs : List ℕ) (xs : List (𝓝 .N)) (s : ℕ) where

@@ -3,7 +3,7 @@ use Prim.Native.Nat.{ℕ, _+_, _-_, _*_, min, max, _≤_, _<_}
 use mathlib.Core.Path.{_≡_}
 use mathlib.Core.Bool.{Bool}
 use mathlib.Core.List.{List, [], _∷_, map}
-use lib.ListN.{length, take, getD, replicate}
+use lib.ListN.{length, getD, replicate}
 use lib.Seq.{sets}
 use lib.Ieee.{Float}
 use lib.IntN.{ℤ, pos, _+ℤ_, _*ℤ_}
@@ -11,21 +11,18 @@ use Rattle.lists.specs.Lists.{pick}
 use Rattle.whole.specs.Whole.{reach, Near, nearest, lower}
 use Rattle.vectors.specs.declared.Vec3.{Vec3}
 use Rattle.vectors.specs.Vectors.{origin}
-use Rattle.rules.specs.Position.{Stage, Rule, each, outOf, Numbers, sum, single}
+use Rattle.rules.specs.Position as paper
+use Rattle.rules.specs.Position.{Stage, each, outOf, Numbers, sum, weighed, single, whole}
 use Rattle.rules.specs.Levels.{ends, coord}
-use Rattle.faces.specs.declared.VertNo.{VertNo}
-use Rattle.faces.specs.declared.Ring.{Ring}
-use Rattle.weights.specs.Weights.{ruleOf}
+use Rattle.weights.specs.Weights.{ruleOf, alike}
+use Rattle.weights.specs.declared.Rule.{Rule}
+use Rattle.weights.specs.declared.Rule.the-variants.{Ring, Rim}
 use Rattle.weights.specs.declared.micrometres.Share.{Share}
 use Rattle.weights.specs.declared.micrometres.Whole3.{Whole3}
 
--- the vertices of a ring, in order
-abbrev pub numbers : List VertNo → List ℕ
-numbers vs = map (λ v. v .0) vs
-
--- those that have the weight b: all of them, or on the rim the first and the last
-abbrev pub weighing : Ring → List ℕ
-weighing r = let vs = numbers (take (r .n) (r .v)) in pick (r .rim) (ends vs) vs
+-- those of a ring that have the weight b: all of them, or on the rim the first and the last
+abbrev pub weighing : Bool → List ℕ → List ℕ
+weighing rim vs = pick rim (ends vs) vs
 
 -- how many they are
 abbrev pub weighings : Bool → ℕ → ℕ
@@ -33,8 +30,8 @@ weighings rim n = pick rim 2 n
 
 module _ (𝓝 : Numbers) where
   -- coordinate c of vertex v, by its ring
-  abbrev pub byRing : Stage → List (𝓝 .N) → ℕ → Ring → ℕ → 𝓝 .N
-  byRing s xs v r c = 𝓝 .blend (ruleOf s (r .rim) (r .n)) (coord 𝓝 xs c v) (map (coord 𝓝 xs c) (weighing r))
+  abbrev pub byRing : Stage → List (𝓝 .N) → ℕ → Bool → List ℕ → ℕ → 𝓝 .N
+  byRing s xs v rim vs c = 𝓝 .blend (ruleOf s rim (length vs)) (coord 𝓝 xs c v) (map (coord 𝓝 xs c) (weighing rim vs))
 
   abbrev pub halfway : List (𝓝 .N) → ℕ → ℕ → ℕ → 𝓝 .N
   halfway xs a b c = 𝓝 .halves (coord 𝓝 xs c a) (coord 𝓝 xs c b)
@@ -55,13 +52,21 @@ module _ (𝓝 : Numbers) where
 pub record There (xs : List Float) (v : ℕ) : Type 0 where
   pub room : 3 * v + 3 ≤ length xs
 
--- and those of the first n of vs
-pub record AllThere (xs : List Float) (vs : List VertNo) (n : ℕ) : Type 0 where
-  pub few : n ≤ 16
-  pub at : (k : ℕ) → k < n → There xs (getD vs k (record { 0 = 0 }) .0)
+-- and those of a ring
+pub record AllThere (xs : List Float) (vs : List ℕ) : Type 0 where
+  pub few : length vs ≤ 16
+  pub at : (k : ℕ) → k < length vs → There xs (getD vs k 0)
 
 abbrev pub pointAt : List Float → ℕ → Vec3
 pointAt xs v = record { x = coord single xs 0 v; y = coord single xs 1 v; z = coord single xs 2 v }
+
+-- vertex v, and vs with the weight b
+abbrev pub weighedPoint : Float → List Float → ℕ → List ℕ → Vec3
+weighedPoint b xs v vs = alike (weighed b) (pointAt xs v) (map (pointAt xs) vs)
+
+abbrev pub weightedPoint : Rule → List Float → ℕ → List ℕ → Vec3
+weightedPoint (Ring b) xs v vs = weighedPoint b xs v vs
+weightedPoint (Rim b) xs v vs = weighedPoint b xs v (ends vs)
 
 abbrev pub listed : Vec3 → List Float
 listed p = p .x ∷ p .y ∷ p .z ∷ []
@@ -77,20 +82,26 @@ pub record Readable (xs : List ℤ) (v : ℕ) : Type 0 where
   pub room : 3 * v + 3 ≤ length xs
   pub near : (c : ℕ) → c < 3 → Near (getD xs (3 * v + c) (pos 0))
 
--- and those of the first n of vs
-pub record AllReadable (xs : List ℤ) (vs : List VertNo) (n : ℕ) : Type 0 where
-  pub few : n ≤ 16
-  pub at : (k : ℕ) → k < n → Readable xs (getD vs k (record { 0 = 0 }) .0)
+-- and those of a ring
+pub record AllReadable (xs : List ℤ) (vs : List ℕ) : Type 0 where
+  pub few : length vs ≤ 16
+  pub at : (k : ℕ) → k < length vs → Readable xs (getD vs k 0)
 
 -- s is a sum of raised numbers of weight w in all, and stands for z
 abbrev pub Stands : ℕ → ℕ → ℤ → Type 0
 Stands s w z = (lower w s ≡ z) × (s ≤ w * (2 * reach))
 
+abbrev pub Stands3 : Whole3 → ℕ → (ℕ → ℤ) → Type 0
+Stands3 p w f = Stands (p .x) w (f 0) × (Stands (p .y) w (f 1) × Stands (p .z) w (f 2))
+
+abbrev pub sumOf : List ℤ → List ℕ → ℕ → ℤ
+sumOf xs vs c = sum (map (coord whole xs c) vs)
+
 -- b = k / d on each of n, and 1 - n b
 abbrev pub sharing : ℕ → ℕ → ℕ → Share
 sharing n k d = record { own = d - n * k; each = k; all = d }
 
-abbrev pub shareOf : Rule → ℕ → Share
+abbrev pub shareOf : paper.Rule → ℕ → Share
 shareOf r n = sharing n (each r) (outOf r)
 
 -- the mean of p and qs by their shares
@@ -102,6 +113,12 @@ pub record Whole (w : Share) (n : ℕ) : Type 0 where
   pub above : 0 < w .all
   pub few : w .all ≤ 128
   pub together : w .own + n * w .each ≡ w .all
+
+-- raised p and s, by those shares, come to no more than one raised number by the whole
+pub record Fits (w : Share) (p s : ℕ) : Type 0 where
+  pub above : 0 < w .all
+  pub few : w .all ≤ 128
+  pub most : w .own * p + w .each * s ≤ w .all * (2 * reach)
 
 -- what a point of raised coordinates stands for
 abbrev pub lowered : Whole3 → List ℤ

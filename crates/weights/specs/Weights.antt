@@ -1,13 +1,12 @@
 -- The rules of position as the code holds them, in f32. Each gives of every coordinate what the rule over numbers does. Assumes nothing.
-use Prim.Native.Nat.{ℕ, _-_}
+use Prim.Native.Nat.{ℕ}
 use mathlib.Core.Bool.{Bool}
-use mathlib.Core.List.{List, [], _∷_, map}
-use lib.ListN.{take, getD}
+use mathlib.Core.List.{List, map}
 use lib.Ieee.{Float, nan}
 use Rattle.vectors.specs.declared.Vec3.{Vec3}
 use Rattle.lists.specs.Lists.{pick}
 use Rattle.rules.specs.Position as paper
-use Rattle.rules.specs.Position.{refining, limit, ringRule, rimRule, weight, weighed, single}
+use Rattle.rules.specs.Position.{refining, limit, ringRule, rimRule, weight, single}
 use Rattle.weights.specs.declared.Stage.{Stage}
 use Rattle.weights.specs.declared.Stage.the-variants.{Refining, Limit}
 use Rattle.weights.specs.declared.Rule.{Rule}
@@ -33,19 +32,6 @@ alike f p qs = record { x = f (p .x) (map (λ q. q .x) qs); y = f (p .y) (map (�
 -- what stands past a list's end, which no rule reaches
 abbrev pub nowhere : Vec3
 nowhere = record { x = nan; y = nan; z = nan }
-
-abbrev pub firstLast : List Vec3 → ℕ → List Vec3
-firstLast ring n = getD ring 0 nowhere ∷ getD ring (n - 1) nowhere ∷ []
-
-abbrev pub ringPoint : Float → Vec3 → List Vec3 → ℕ → Vec3
-ringPoint b p ring n = alike (weighed b) p (take n ring)
-
-abbrev pub rimPoint : Float → Vec3 → List Vec3 → ℕ → Vec3
-rimPoint b p ring n = alike (weighed b) p (firstLast ring n)
-
-abbrev pub weightedPoint : Rule → Vec3 → List Vec3 → ℕ → Vec3
-weightedPoint (Ring b) p ring n = ringPoint b p ring n
-weightedPoint (Rim b) p ring n = rimPoint b p ring n
 
 abbrev pub halfPoint : Vec3 → Vec3 → Vec3
 halfPoint a b = record { x = single .halves (a .x) (b .x); y = single .halves (a .y) (b .y); z = single .halves (a .z) (b .z) }

@@ -6,8 +6,10 @@ use faces::VertNo;
 use vectors::Vec3;
 ghost use mathlib.Core.Path.{_≡_};
 ghost use Prim.Native.Nat.{_<_, _≤_, min, max};
+ghost use lib.ListN.{length};
 ghost use Rattle.rules.specs.Position.{refining, limit, f32, beta, loopGamma};
-ghost use Rattle.weights.specs.Weights.{staged, ruleOf, carried, ringPoint, rimPoint, weightedPoint, halfPoint, eighthPoint};
+ghost use Rattle.weights.specs.Weights.{staged, ruleOf, carried, halfPoint, eighthPoint};
+ghost use Rattle.weights.specs.Lent.{There, AllThere, weightedPoint};
 
 // Whether a vertex is moved to the next level, or to its limit.
 pub enum Stage {
@@ -66,14 +68,14 @@ impl Rule {
         }
     }
 
-    // The vertex at p, by the first n points of its ring.
-    pub fn weighted(self, p: Vec3, ring: [Vec3; 16], n: usize) -> Vec3
-        requires { ⌜ (0 < n) × (n ≤ 16) ⌝ }
-        ensures { λ r. ⌜ r ≡ weightedPoint self p ring n ⌝ }
+    // Vertex v, by its ring.
+    pub fn weighted(self, xs: &[f32], v: VertNo, ring: &[u32]) -> Vec3
+        requires { ⌜ There (now xs) (v .0) × ((0 < length (now ring)) × AllThere (now xs) (now ring)) ⌝ }
+        ensures { λ r. ⌜ r ≡ weightedPoint self (now (xs .entry)) (v .0) (now (ring .entry)) ⌝ }
     {
         match self {
-            Rule::Ring(b) => weight_one_ring(p, ring, n, b),
-            Rule::Rim(b) => weight_boundary(p, ring, n, b),
+            Rule::Ring(b) => points::weight_one_ring(xs, v, ring, b),
+            Rule::Rim(b) => points::weight_boundary(xs, v, ring, b),
         }
     }
 }
@@ -114,32 +116,6 @@ pub fn loop_gamma(n: usize) -> f32
     ensures { λ r. ⌜ r ≡ loopGamma n ⌝ }
 {
     1.0 / (number(n) + 3.0 / (8.0 * beta(n)))
-}
-
-// "Own term first, then the ring in order."
-pub fn weight_one_ring(p: Vec3, ring: [Vec3; 16], n: usize, b: f32) -> Vec3
-    requires { ⌜ n ≤ 16 ⌝ }
-    ensures { λ r. ⌜ r ≡ ringPoint b p ring n ⌝ }
-{
-    let mut at = p.mul(1.0 - number(n) * b);
-    let mut i = 0usize;
-    while i < n {
-        let q = ring[i];
-        at = at.add(q.mul(b));
-        i += 1usize;
-    }
-    at
-}
-
-pub fn weight_boundary(p: Vec3, ring: [Vec3; 16], n: usize, b: f32) -> Vec3
-    requires { ⌜ (0 < n) × (n ≤ 16) ⌝ }
-    ensures { λ r. ⌜ r ≡ rimPoint b p ring n ⌝ }
-{
-    let own = p.mul(1.0 - 2.0 * b);
-    let end = n - 1;
-    let first = ring[0];
-    let last = ring[end];
-    own.add(first.mul(b)).add(last.mul(b))
 }
 
 // A rim edge, lower-numbered end first.

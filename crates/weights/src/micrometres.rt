@@ -2,20 +2,19 @@
 use crate::Stage;
 use crate::higher;
 use crate::lower;
-use faces::Ring;
 use faces::VertNo;
 use whole::put;
 use whole::raised_at;
 use whole::rounded;
 ghost use mathlib.Core.Path.{_≡_};
 ghost use Prim.Native.Nat.{_+_, _*_, _<_, _≤_};
-ghost use mathlib.Core.List.{map};
-ghost use lib.ListN.{length, take};
+ghost use lib.ListN.{length};
 ghost use lib.Seq.{sets};
-ghost use Rattle.rules.specs.Position.{refining, limit, sum, whole};
+ghost use Rattle.rules.specs.Position.{refining, limit, whole};
 ghost use Rattle.rules.specs.Levels.{ends, coord, three};
 ghost use Rattle.weights.specs.Weights.{staged, ruleOf};
-ghost use Rattle.weights.specs.Lent.{numbers, weighing, weighings, byRing, halfway, eighthway, onRim, within, Readable, AllReadable, Stands, sharing, shareOf, mean, Whole, lowered, Raised3};
+ghost use Rattle.weights.specs.Lent.{weighing, weighings, byRing, halfway, eighthway, onRim, within, Readable, AllReadable, Stands, Stands3, sumOf, sharing, shareOf, Fits, lowered, Raised3};
+ghost use Rattle.whole.specs.Whole.{reach, nearest, raise, lower as lowerBy};
 
 // The weights of a vertex rule out of one whole: the vertex's own, and that of each in its ring, or of its first and its last.
 pub struct Share {
@@ -99,66 +98,71 @@ fn at(xs: &[i32], v: VertNo, c: usize) -> u64
     raised_at(xs, 3 * v.0 as usize + c)
 }
 
-fn ring_sum(xs: &[i32], ring: [VertNo; 16], n: usize, c: usize) -> u64
-    requires { ⌜ (c < 3) × AllReadable (now xs) ring n ⌝ }
-    ensures { λ r. ⌜ Stands r n (sum (map (coord whole (now (xs .entry)) c) (numbers (take n ring)))) ⌝ }
+// Coordinate by coordinate, the sum of a ring.
+fn ring_sum(xs: &[i32], ring: &[u32]) -> Whole3
+    requires { ⌜ AllReadable (now xs) (now ring) ⌝ }
+    ensures { λ r. ⌜ Stands3 r (length (now (ring .entry))) (sumOf (now (xs .entry)) (now (ring .entry))) ⌝ }
 {
-    let mut s: u64 = 0;
+    let mut x: u64 = 0;
+    let mut y: u64 = 0;
+    let mut z: u64 = 0;
     let mut i = 0usize;
-    while i < n {
-        let v = ring[i];
-        s += at(xs, v, c);
+    while i < ring.len() {
+        let v = VertNo(ring[i]);
+        x += at(xs, v, 0);
+        y += at(xs, v, 1);
+        z += at(xs, v, 2);
         i += 1usize;
     }
-    s
+    Whole3 { x, y, z }
 }
 
-fn boundary_sum(xs: &[i32], ring: [VertNo; 16], n: usize, c: usize) -> u64
-    requires { ⌜ (c < 3) × ((0 < n) × AllReadable (now xs) ring n) ⌝ }
-    ensures { λ r. ⌜ Stands r 2 (sum (map (coord whole (now (xs .entry)) c) (ends (numbers (take n ring))))) ⌝ }
+// And of its first and its last.
+fn boundary_sum(xs: &[i32], ring: &[u32]) -> Whole3
+    requires { ⌜ (0 < length (now ring)) × AllReadable (now xs) (now ring) ⌝ }
+    ensures { λ r. ⌜ Stands3 r 2 (sumOf (now (xs .entry)) (ends (now (ring .entry)))) ⌝ }
 {
-    let end = n - 1;
-    let first = ring[0];
-    let last = ring[end];
-    at(xs, first, c) + at(xs, last, c)
+    let first = VertNo(ring[0]);
+    let last = VertNo(ring[ring.len() - 1]);
+    Whole3 {
+        x: at(xs, first, 0) + at(xs, last, 0),
+        y: at(xs, first, 1) + at(xs, last, 1),
+        z: at(xs, first, 2) + at(xs, last, 2),
+    }
 }
 
 // Those that have the weight b.
-fn weighed_sum(xs: &[i32], ring: Ring, c: usize) -> u64
-    requires { ⌜ (c < 3) × ((0 < ring .n) × AllReadable (now xs) (ring .v) (ring .n)) ⌝ }
-    ensures { λ r. ⌜ Stands r (weighings (ring .rim) (ring .n)) (sum (map (coord whole (now (xs .entry)) c) (weighing ring))) ⌝ }
+fn weighed_sum(xs: &[i32], ring: &[u32], rim: bool) -> Whole3
+    requires { ⌜ (0 < length (now ring)) × AllReadable (now xs) (now ring) ⌝ }
+    ensures { λ r. ⌜ Stands3 r (weighings rim (length (now (ring .entry)))) (sumOf (now (xs .entry)) (weighing rim (now (ring .entry)))) ⌝ }
 {
-    let vs = ring.v;
-    let n = ring.n;
-    if ring.rim {
-        boundary_sum(xs, vs, n, c)
+    if rim {
+        boundary_sum(xs, ring)
     } else {
-        ring_sum(xs, vs, n, c)
+        ring_sum(xs, ring)
     }
 }
 
-fn weighted(xs: &[i32], v: VertNo, ring: Ring, w: Share, c: usize) -> u64
-    requires { ⌜ (c < 3) × (Readable (now xs) (v .0) × ((0 < ring .n) × AllReadable (now xs) (ring .v) (ring .n))) ⌝ }
-    requires { ⌜ Whole w (weighings (ring .rim) (ring .n)) ⌝ }
-    ensures { λ r. ⌜ Stands r 1 (mean w (coord whole (now (xs .entry)) c (v .0)) (map (coord whole (now (xs .entry)) c) (weighing ring))) ⌝ }
+// p is the vertex's own coordinate, s the sum of those weighed with it.
+fn weighted(p: u64, s: u64, w: Share) -> u64
+    requires { ⌜ Fits w p s ⌝ }
+    ensures { λ r. ⌜ (r ≡ raise (nearest (lowerBy (w .all) (w .own * p + w .each * s)) (w .all))) × (r ≤ 2 * reach) ⌝ }
 {
-    rounded(
-        w.own * at(xs, v, c) + w.each * weighed_sum(xs, ring, c),
-        w.all,
-    )
+    rounded(w.own * p + w.each * s, w.all)
 }
 
 // Vertex v by the rule of the stage, from its ring.
-pub fn vertex(xs: &[i32], v: VertNo, ring: Ring, stage: Stage) -> Whole3
-    requires { ⌜ Readable (now xs) (v .0) × ((0 < ring .n) × AllReadable (now xs) (ring .v) (ring .n)) ⌝ }
-    ensures point { λ r. ⌜ lowered r ≡ three whole (byRing whole (staged stage) (now (xs .entry)) (v .0) ring) ⌝ }
+pub fn vertex(xs: &[i32], v: VertNo, ring: &[u32], rim: bool, stage: Stage) -> Whole3
+    requires { ⌜ Readable (now xs) (v .0) × ((0 < length (now ring)) × AllReadable (now xs) (now ring)) ⌝ }
+    ensures point { λ r. ⌜ lowered r ≡ three whole (byRing whole (staged stage) (now (xs .entry)) (v .0) rim (now (ring .entry))) ⌝ }
     ensures near { λ r. ⌜ Raised3 r ⌝ }
 {
-    let w = Share::new(stage, ring.rim, ring.n);
+    let w = Share::new(stage, rim, ring.len());
+    let s = weighed_sum(xs, ring, rim);
     Whole3 {
-        x: weighted(xs, v, ring, w, 0),
-        y: weighted(xs, v, ring, w, 1),
-        z: weighted(xs, v, ring, w, 2),
+        x: weighted(at(xs, v, 0), s.x, w),
+        y: weighted(at(xs, v, 1), s.y, w),
+        z: weighted(at(xs, v, 2), s.z, w),
     }
 }
 

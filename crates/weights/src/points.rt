@@ -3,18 +3,18 @@ use crate::Rule;
 use crate::Stage;
 use crate::higher;
 use crate::lower;
-use faces::Ring;
+use crate::number;
 use faces::VertNo;
 use vectors::Vec3;
 ghost use mathlib.Core.Path.{_≡_};
-ghost use Prim.Native.Nat.{_+_, _*_, _<_, _≤_};
+ghost use Prim.Native.Nat.{_+_, _<_, _≤_};
 ghost use mathlib.Core.List.{map};
-ghost use lib.ListN.{length, take};
+ghost use lib.ListN.{length};
 ghost use lib.Seq.{sets};
 ghost use Rattle.rules.specs.Position.{single};
-ghost use Rattle.rules.specs.Levels.{three};
+ghost use Rattle.rules.specs.Levels.{ends, three};
 ghost use Rattle.weights.specs.Weights.{staged};
-ghost use Rattle.weights.specs.Lent.{numbers, byRing, onRim, within, There, AllThere, listed, pointAt, sixteen};
+ghost use Rattle.weights.specs.Lent.{byRing, onRim, within, There, AllThere, listed, pointAt, sixteen, weighedPoint};
 
 pub fn put(p: Vec3, xs: &mut [f32], i: usize)
     requires { ⌜ i + 3 ≤ length (now xs) ⌝ }
@@ -37,32 +37,53 @@ pub fn point(xs: &[f32], v: VertNo) -> Vec3
     }
 }
 
-// The points of the first n of a ring.
-pub fn ring_points(xs: &[f32], ring: [VertNo; 16], n: usize) -> [Vec3; 16]
-    requires { ⌜ AllThere (now xs) ring n ⌝ }
-    ensures { λ r. ⌜ r ≡ sixteen (map (pointAt (now (xs .entry))) (numbers (take n ring))) ⌝ }
+// The points of a ring.
+pub fn ring_points(xs: &[f32], ring: &[u32]) -> [Vec3; 16]
+    requires { ⌜ AllThere (now xs) (now ring) ⌝ }
+    ensures { λ r. ⌜ r ≡ sixteen (map (pointAt (now (xs .entry))) (now (ring .entry))) ⌝ }
 {
     let o = Vec3::default();
     let mut out = [o; 16];
     let mut i = 0usize;
-    while i < n {
-        let v = ring[i];
-        let q = point(xs, v);
+    while i < ring.len() {
+        let q = point(xs, VertNo(ring[i]));
         out[i] = q;
         i += 1usize;
     }
     out
 }
 
-// Vertex v by the rule of the stage, from its ring.
-pub fn vertex(xs: &[f32], v: VertNo, ring: Ring, stage: Stage) -> Vec3
-    requires { ⌜ There (now xs) (v .0) × ((0 < ring .n) × AllThere (now xs) (ring .v) (ring .n)) ⌝ }
-    ensures { λ r. ⌜ listed r ≡ three single (byRing single (staged stage) (now (xs .entry)) (v .0) ring) ⌝ }
+// "Own term first, then the ring in order."
+pub fn weight_one_ring(xs: &[f32], v: VertNo, ring: &[u32], b: f32) -> Vec3
+    requires { ⌜ There (now xs) (v .0) × AllThere (now xs) (now ring) ⌝ }
+    ensures { λ r. ⌜ r ≡ weighedPoint b (now (xs .entry)) (v .0) (now (ring .entry)) ⌝ }
 {
-    let vs = ring.v;
-    let n = ring.n;
-    let rule = Rule::new(stage, ring.rim, n);
-    rule.weighted(point(xs, v), ring_points(xs, vs, n), n)
+    let mut at = point(xs, v).mul(1.0 - number(ring.len()) * b);
+    let mut i = 0usize;
+    while i < ring.len() {
+        let q = point(xs, VertNo(ring[i]));
+        at = at.add(q.mul(b));
+        i += 1usize;
+    }
+    at
+}
+
+pub fn weight_boundary(xs: &[f32], v: VertNo, ring: &[u32], b: f32) -> Vec3
+    requires { ⌜ There (now xs) (v .0) × ((0 < length (now ring)) × AllThere (now xs) (now ring)) ⌝ }
+    ensures { λ r. ⌜ r ≡ weighedPoint b (now (xs .entry)) (v .0) (ends (now (ring .entry))) ⌝ }
+{
+    let own = point(xs, v).mul(1.0 - 2.0 * b);
+    let first = point(xs, VertNo(ring[0]));
+    let last = point(xs, VertNo(ring[ring.len() - 1]));
+    own.add(first.mul(b)).add(last.mul(b))
+}
+
+// Vertex v by the rule of the stage, from its ring.
+pub fn vertex(xs: &[f32], v: VertNo, ring: &[u32], rim: bool, stage: Stage) -> Vec3
+    requires { ⌜ There (now xs) (v .0) × ((0 < length (now ring)) × AllThere (now xs) (now ring)) ⌝ }
+    ensures { λ r. ⌜ listed r ≡ three single (byRing single (staged stage) (now (xs .entry)) (v .0) rim (now (ring .entry))) ⌝ }
+{
+    Rule::new(stage, rim, ring.len()).weighted(xs, v, ring)
 }
 
 // The new vertex of a rim edge, between a and b.

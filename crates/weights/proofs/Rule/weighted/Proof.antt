@@ -1,7 +1,8 @@
 use mathlib.Core.Path.{sym, ap, _∙_}
+use denote.Ref.{now}
 use borrow.Author.Needs.{needs}
 use Rattle.weights.specs.declared.Rule.{Rule}
-use Rattle.weights.specs.Weights.{weightedPoint}
+use Rattle.weights.specs.Lent.{weightedPoint}
 use Rattle.weights.proofs.Rule.weighted.Statement.{statement}
 use Rattle.weights.proofs.Rule.weighted.Tie as tie
 
@@ -19,13 +20,13 @@ weight-boundary-requires c κs = search needs
 
 returns : tie.Need-returns
 returns c =
-    let a = c .before .before .before .before .args in
-    c .weight-one-ring .ensures ∙ sym (ap (λ (r : Rule). weightedPoint r (a .p) (a .ring) (a .n)) (c .before .before .self .given .1))
+    let a = c .before .before .before .before .before .before .args in
+    c .weight-one-ring .ensures ∙ sym (ap (λ (r : Rule). weightedPoint r (now (a .xs)) (a .v .0) (now (a .ring))) (c .before .before .self .given .1))
 
 returns-2 : tie.Need-returns-2
 returns-2 c =
-    let a = c .before .before .before .before .args in
-    c .weight-boundary .ensures ∙ sym (ap (λ (r : Rule). weightedPoint r (a .p) (a .ring) (a .n)) (c .before .before .self2 .given .1))
+    let a = c .before .before .before .before .before .before .args in
+    c .weight-boundary .ensures ∙ sym (ap (λ (r : Rule). weightedPoint r (now (a .xs)) (a .v .0) (now (a .ring))) (c .before .before .self2 .given .1))
 
 pub weighted-spec : {M : Type 1} → statement M
 weighted-spec =

@@ -1,39 +1,53 @@
 use mathlib.Core.Path.{_≡_}
-use mathlib.Core.List.{map}
-use Prim.Native.Nat.{_≤_, _-_}
+use mathlib.Core.List.{List}
+use Prim.Native.Nat.{ℕ, _≤_, _<_, _-_}
 use native.Mathlib.Omega.{arith}
 use denote.Ref.{now}
-use lib.ListN.{take}
+use lib.ListN.{length, take}
+use lib.Seq.{take-all}
+use lib.IntN.{ℤ}
 use borrow.Author.Needs.{needs}
-use Rattle.lists.proofs.Places.{map-map}
 use Rattle.whole.proofs.Sums.{Raised, raised-zero, lower-is}
-use Rattle.rules.specs.Position.{sum, whole}
+use Rattle.rules.specs.Position.{whole}
 use Rattle.rules.specs.Levels.{coord}
-use Rattle.faces.specs.declared.VertNo.{VertNo}
-use Rattle.weights.proofs.Means.{raised-of, raised-more, none}
+use Rattle.weights.specs.Lent.{Stands, sumOf}
+use Rattle.weights.proofs.Means.{raised-of, raised-more}
 use Rattle.weights.proofs.micrometres.ring_sum.Statement.{statement}
 use Rattle.weights.proofs.micrometres.ring_sum.Tie as tie
 
 abbrev Inv-loop : tie.InvT-loop
-Inv-loop xs n c ring s₀ i₀ s i = (i ≤ n) × Raised s i (sum (map (λ v. coord whole xs c (v .0)) (take i ring)))
+Inv-loop xs ring x₀ y₀ z₀ i₀ x y z i =
+    (i ≤ length ring) × (Raised x i (sumOf xs (take i ring) 0) × (Raised y i (sumOf xs (take i ring) 1) × Raised z i (sumOf xs (take i ring) 2)))
 
 abbrev μ-loop : tie.MeasureT-loop
-μ-loop xs n c ring s₀ i₀ s i = n - i
+μ-loop xs ring x₀ y₀ z₀ i₀ x y z i = length ring - i
 
 loop-holds : tie.Need-loop-holds Inv-loop μ-loop
-loop-holds c = (search needs, raised-zero)
+loop-holds c = (search needs, (raised-zero, (raised-zero, raised-zero)))
 
-mul-v : tie.Need-mul-v Inv-loop μ-loop
-mul-v c = search needs
+mul-t8 : tie.Need-mul-t8 Inv-loop μ-loop
+mul-t8 c = search needs
 
-array-copy-out-v : tie.Need-array-copy-out-v Inv-loop μ-loop
-array-copy-out-v c = search needs
+shared-slice-read-t11 : tie.Need-shared-slice-read-t11 Inv-loop μ-loop
+shared-slice-read-t11 c = search needs
 
 at-requires : tie.Need-at-requires Inv-loop μ-loop
-at-requires c κs = let s = c .before .before .before in (s .pre .0, s .pre .1 .at (c .before .before .loop .i) (omega arith))
+at-requires c κs = let l = c .before .before in (omega arith, l .before .before .pre .at (l .loop .i) (omega arith))
 
-add-s : tie.Need-add-s Inv-loop μ-loop
-add-s c = let l = c .before .before .before in omega (arith, l .loop .inv .1 .most, l .before .pre .1 .few)
+add-x : tie.Need-add-x Inv-loop μ-loop
+add-x c = let l = c .before .before .before in omega (arith, l .loop .inv .1 .0 .most, l .before .before .pre .few)
+
+at-requires-2 : tie.Need-at-requires-2 Inv-loop μ-loop
+at-requires-2 c κs = let l = c .before .before .before in (omega arith, l .before .before .pre .at (l .loop .i) (omega arith))
+
+add-y : tie.Need-add-y Inv-loop μ-loop
+add-y c = let l = c .before .before .before .before in omega (arith, l .loop .inv .1 .1 .0 .most, l .before .before .pre .few)
+
+at-requires-3 : tie.Need-at-requires-3 Inv-loop μ-loop
+at-requires-3 c κs = let l = c .before .before .before .before in (omega arith, l .before .before .pre .at (l .loop .i) (omega arith))
+
+add-z : tie.Need-add-z Inv-loop μ-loop
+add-z c = let l = c .before .before .before .before .before in omega (arith, l .loop .inv .1 .1 .1 .most, l .before .before .pre .few)
 
 add-i : tie.Need-add-i Inv-loop μ-loop
 add-i c = search needs
@@ -43,17 +57,38 @@ loop-less c = search needs
 
 loop-again : tie.Need-loop-again Inv-loop μ-loop
 loop-again c =
-    let l = c .before .before .before in
-    let a = l .before .args in
-    (search needs, raised-more (λ v. coord whole (now (a .xs)) (a .c) (v .0)) (a .t2) (l .loop .i) none (omega (arith, l .before .pre .1 .few)) (l .loop .inv .1) (raised-of (c .at .ensures .0) (c .at .ensures .1)))
+    let l = c .before .before .before .before .before in
+    let a = l .before .before .args in
+    let v = l .loop .inv .1 in
+    let x = c .before .before .at .ensures in
+    let y = c .before .at2 .ensures in
+    let z = c .at3 .ensures in
+    let xs = now (a .xs) in
+    let vs = now (a .ring) in
+    let i = l .loop .i in
+    let h : i < length vs = omega arith in (
+      search needs,
+      (
+        raised-more (coord whole xs 0) vs i 0 h (v .0) (raised-of (x .0) (x .1)),
+        (raised-more (coord whole xs 1) vs i 0 h (v .1 .0) (raised-of (y .0) (y .1)), raised-more (coord whole xs 2) vs i 0 h (v .1 .1) (raised-of (z .0) (z .1))),
+      ),
+    )
+
+-- coordinate k, when none is left
+whole-ring : (xs : List ℤ) (vs : List ℕ) (k : ℕ) {s i : ℕ} → i ≡ length vs → Raised s i (sumOf xs (take i vs) k) → Stands s (length vs) (sumOf xs vs k)
+whole-ring xs vs k {s} {i} e r =
+    let h = rw (e, take-all (length vs) vs (omega arith)) at r in
+    (lower-is h, h .most)
 
 returns : tie.Need-returns Inv-loop μ-loop
 returns c =
     let l = c .before in
-    let a = l .before .args in
-    let e : l .loop .i ≡ a .n = omega arith in
-    let h = l .loop .inv .1 in
-    rw (map-map (λ (v : VertNo). v .0) (coord whole (now (a .xs)) (a .c)) (take (a .n) (a .t2)), ← e) (lower-is h, h .most)
+    let a = l .before .before .args in
+    let v = l .loop .inv .1 in
+    let xs = now (a .xs) in
+    let vs = now (a .ring) in
+    let h : l .loop .i ≡ length vs = omega arith in
+    (whole-ring xs vs 0 h (v .0), (whole-ring xs vs 1 h (v .1 .0), whole-ring xs vs 2 h (v .1 .1)))
 
 pub ring-sum-spec : {M : Type 1} → statement M
 ring-sum-spec =
@@ -62,10 +97,14 @@ ring-sum-spec =
     Inv-loop
     μ-loop
     loop-holds
-    mul-v
-    array-copy-out-v
+    mul-t8
+    shared-slice-read-t11
     at-requires
-    add-s
+    add-x
+    at-requires-2
+    add-y
+    at-requires-3
+    add-z
     add-i
     loop-less
     loop-again
