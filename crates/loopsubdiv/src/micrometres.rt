@@ -29,8 +29,9 @@ fn limit_at(words: &[u32], at: usize, nf: usize, nv: usize, xs: &[i32], u: usize
     ensures near { λ r. ⌜ Raised3 r ⌝ }
 {
     let s = words[at + 6 * nf + u] as usize;
-    let ring = faces::one_ring(words, at, at + 3 * nf, nf, s);
-    weights::micrometres::vertex(xs, VertNo(u as u32), ring, Stage::Limit)
+    let mut vs: [u32; 16] = [0; 16];
+    let ring = faces::one_ring(words, at, at + 3 * nf, nf, s, &mut vs);
+    weights::micrometres::vertex(xs, VertNo(u as u32), &vs[..ring.n], ring.rim, Stage::Limit)
 }
 
 pub fn limit(words: &[u32], at: usize, nf: usize, nv: usize, xs: &[i32], out: &mut [i32])

@@ -27,8 +27,9 @@ fn limit_at(words: &[u32], at: usize, nf: usize, nv: usize, xs: &[f32], u: usize
     ensures point { λ r. ⌜ listed r ≡ moved single atLimit (meshIn (now (words .entry)) at nf nv) (links (part at (3 * nf) (now (words .entry)))) (now (xs .entry)) u ⌝ }
 {
     let s = words[at + 6 * nf + u] as usize;
-    let ring = faces::one_ring(words, at, at + 3 * nf, nf, s);
-    weights::points::vertex(xs, VertNo(u as u32), ring, Stage::Limit)
+    let mut vs: [u32; 16] = [0; 16];
+    let ring = faces::one_ring(words, at, at + 3 * nf, nf, s, &mut vs);
+    weights::points::vertex(xs, VertNo(u as u32), &vs[..ring.n], ring.rim, Stage::Limit)
 }
 
 pub fn limit(words: &[u32], at: usize, nf: usize, nv: usize, xs: &[f32], out: &mut [f32])

@@ -1,12 +1,14 @@
 use denote.Ref.{now}
 use Prim.Native.Nat.{_*_, _≤_}
 use native.Mathlib.Omega.{arith}
-use lib.ListN.{length}
+use mathlib.Core.Path.{sym}
+use lib.ListN.{length, replicate}
+use lib.Seq.{length-take-le}
 use Rattle.lists.specs.Lists.{part}
 use Rattle.lists.proofs.Stores.{length-part}
-use Rattle.rules.specs.Position.{whole}
+use Rattle.rules.specs.Position.{refining, whole}
 use Rattle.weights.specs.Lent.{lowered}
-use Rattle.levels.proofs.Moves.{lent-is, start-small, ring-asks, old-whole, old-is}
+use Rattle.levels.proofs.Moves.{lent-is, start-small, ring-asks, ring-fits, old-whole, moved-is}
 use borrow.Author.Needs.{needs}
 use Rattle.levels.proofs.micrometres.old_point.Statement.{statement}
 use Rattle.levels.proofs.micrometres.old_point.Tie as tie
@@ -38,11 +40,14 @@ mul-one-ring c = search needs
 add-one-ring : tie.Need-add-one-ring
 add-one-ring c = search needs
 
+slice-aggregate-one-ring : tie.Need-slice-aggregate-one-ring
+slice-aggregate-one-ring c = search needs
+
 one-ring-requires : tie.Need-one-ring-requires
 one-ring-requires c κs =
-    let a = c .before .before .args in
-    let r = c .before .before .pre in
-    ring-asks (now (a .words)) (a .at) (a .nf) (a .nv) (r .0 .0) (a .u) (r .0 .1)
+    let a = c .before .before .before .args in
+    let r = c .before .before .before .pre in
+    (ring-asks (now (a .words)) (a .at) (a .nf) (a .nv) (r .0 .0) (a .u) (r .0 .1), omega arith)
 
 mul-vertex : tie.Need-mul-vertex
 mul-vertex c = search needs
@@ -62,21 +67,39 @@ part-vertex-start c = search needs
 part-vertex-end : tie.Need-part-vertex-end
 part-vertex-end c = search needs
 
-cast-t15 : tie.Need-cast-t15
-cast-t15 c = search needs
+cast-t16 : tie.Need-cast-t16
+cast-t16 c = search needs
+
+fits : (k : tie.After-one-ring) → k .one-ring .result .n ≤ length (k .one-ring .last .1 .1 .1 .1 .1 .0)
+fits k =
+    let a = k .before .before .before .before .args in
+    let r = k .before .before .before .before .pre in
+    ring-fits (now (a .words)) (a .at) (a .nf) (a .nv) (r .0 .0) (a .u) (r .0 .1) (k .one-ring .result) (k .one-ring .ensures .0) (replicate 16 0) (k .one-ring .last .1 .1 .1 .1 .1 .0) (omega arith) (k .one-ring .ensures .1)
+
+array-share-prefix-vs : tie.Need-array-share-prefix-vs
+array-share-prefix-vs c = fits (c .before .before)
+
+slice-aggregate-vertex : tie.Need-slice-aggregate-vertex
+slice-aggregate-vertex c = sym (length-take-le _ _ (fits (c .before .before .before)))
 
 vertex-requires : tie.Need-vertex-requires
 vertex-requires c κs =
-    let a = c .before .before .before .before .args in
-    let r = c .before .before .before .before .pre in
+    let k = c .before .before .before in
+    let a = k .before .before .before .before .args in
+    let r = k .before .before .before .before .pre in
     let l : 3 * a .nv ≤ length (part (a .from) (3 * a .nv) (now (a .work))) = omega (arith, length-part (now (a .work)) (a .from) (3 * a .nv) (r .1 .0)) in
-    rw (lent-is (now (a .work)) (a .from) (3 * a .nv)) (old-whole (now (a .words)) (a .at) (a .nf) (a .nv) (r .0 .0) (a .u) (r .0 .1) (c .before .one-ring .result) (c .before .one-ring .ensures) l (r .1 .1))
+    rw (lent-is (now (a .work)) (a .from) (3 * a .nv))
+    (old-whole (now (a .words)) (a .at) (a .nf) (a .nv) (r .0 .0) (a .u) (r .0 .1) (k .one-ring .result) (k .one-ring .ensures .0) (replicate 16 0) (k .one-ring .last .1 .1 .1 .1 .1 .0) (omega arith) (k .one-ring .ensures .1) l (r .1 .1))
 
 returns : tie.Need-returns
 returns c =
-    let a = c .before .before .before .before .before .args in
-    let r = c .before .before .before .before .before .pre in
-    (old-is (now (a .words)) (a .at) (a .nf) (a .nv) (r .0 .0) (a .u) (r .0 .1) (c .before .before .one-ring .result) (c .before .before .one-ring .ensures) whole (part (a .from) (3 * a .nv) (now (a .work))) (lowered (c .vertex .result)) (rw (lent-is (now (a .work)) (a .from) (3 * a .nv)) at (c .vertex .ensures .0)), c .vertex .ensures .1)
+    let k = c .before .before .before .before in
+    let a = k .before .before .before .before .args in
+    let r = k .before .before .before .before .pre in (
+      moved-is (now (a .words)) (a .at) (a .nf) (a .nv) (r .0 .0) (a .u) (r .0 .1) (k .one-ring .result) (k .one-ring .ensures .0) (replicate 16 0) (k .one-ring .last .1 .1 .1 .1 .1 .0) (omega arith) (k .one-ring .ensures .1) whole refining (part (a .from) (3 * a .nv) (now (a .work)))
+          (lowered (c .vertex .result)) (rw (lent-is (now (a .work)) (a .from) (3 * a .nv)) at (c .vertex .ensures .0)),
+      c .vertex .ensures .1,
+    )
 
 pub old-point-spec : {M : Type 1} → statement M
 old-point-spec =
@@ -90,6 +113,7 @@ old-point-spec =
     cast-s
     mul-one-ring
     add-one-ring
+    slice-aggregate-one-ring
     one-ring-requires
     mul-vertex
     add-vertex
@@ -97,6 +121,8 @@ old-point-spec =
     sub-vertex
     part-vertex-start
     part-vertex-end
-    cast-t15
+    cast-t16
+    array-share-prefix-vs
+    slice-aggregate-vertex
     vertex-requires
     returns)
