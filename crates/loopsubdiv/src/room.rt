@@ -107,8 +107,8 @@ pub fn zero_words(s: &mut [u32], n: usize)
     requires { ⌜ n ≤ length (now s) ⌝ }
     ensures { λ r. ⌜ now (s .exit) ≡ cleared 0 n (now (s .entry)) ⌝ }
 {
-    for k in 0..n {
-        s[k] = 0;
+    for i in 0..n {
+        s[i] = 0;
     }
 }
 

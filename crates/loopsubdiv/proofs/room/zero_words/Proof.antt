@@ -10,10 +10,10 @@ use Rattle.loopsubdiv.proofs.room.zero_words.Statement.{statement}
 use Rattle.loopsubdiv.proofs.room.zero_words.Tie as tie
 
 abbrev Inv-loop : tie.InvT-loop
-Inv-loop s₀ n k₀ s k = (k ≤ n) × (length s ≡ length s₀) × (s ≡ cleared (0) k s₀)
+Inv-loop s₀ n i₀ s i = (i ≤ n) × (length s ≡ length s₀) × (s ≡ cleared 0 i s₀)
 
 abbrev μ-loop : tie.MeasureT-loop
-μ-loop s₀ n k₀ s k = n - k
+μ-loop s₀ n i₀ s i = n - i
 
 loop-holds : tie.Need-loop-holds Inv-loop μ-loop
 loop-holds c = (omega arith, refl, refl)
@@ -24,8 +24,8 @@ mul-s c = omega arith
 slice-write-s : tie.Need-slice-write-s Inv-loop μ-loop
 slice-write-s c = omega arith
 
-add-k : tie.Need-add-k Inv-loop μ-loop
-add-k c = omega arith
+add-i : tie.Need-add-i Inv-loop μ-loop
+add-i c = omega arith
 
 loop-less : tie.Need-loop-less Inv-loop μ-loop
 loop-less c = omega arith
@@ -33,7 +33,7 @@ loop-less c = omega arith
 loop-again : tie.Need-loop-again Inv-loop μ-loop
 loop-again c =
     let l = c .before .loop in
-    (omega arith, rw length-set (l .inv .1), rw (l .inv .2) (clear-more (l .k) (0) (now (c .before .before .args .s)) (omega arith)))
+    (omega arith, rw length-set (l .inv .1), rw (l .inv .2) (clear-more (l .i) 0 (now (c .before .before .args .s)) (omega arith)))
 
 same-length : tie.Need-same-length Inv-loop μ-loop
 same-length c = search needs
@@ -41,7 +41,7 @@ same-length c = search needs
 returns : tie.Need-returns Inv-loop μ-loop
 returns c =
     let l = c .before .loop in
-    let e : l .k ≡ c .before .before .args .n = omega arith in
+    let e : l .i ≡ c .before .before .args .n = omega arith in
     l .inv .2 ∙ rw e
 
 pub zero-words-spec : {M : Type 1} → statement M
@@ -53,7 +53,7 @@ zero-words-spec =
     loop-holds
     mul-s
     slice-write-s
-    add-k
+    add-i
     loop-less
     loop-again
     same-length
