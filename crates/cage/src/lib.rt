@@ -96,27 +96,17 @@ pub fn single_range(coords: &[f32]) -> Check
     Check::Pass
 }
 
-// The link words of a control cage.
-pub fn link_words(indices: &[u32], words: &mut [u32], at: usize)
-    requires sizes { ⌜ Faces (now indices) × Below 4096 (now indices) × (at + length (now indices) ≤ length (now words)) ⌝ }
+// The link words of a control cage, and after them the start corners of its v vertices.
+pub fn link_words(indices: &[u32], v: usize, words: &mut [u32], at: usize)
+    requires sizes { ⌜ Faces (now indices) × Below 4096 (now indices) × (v ≤ 4096) × (at + length (now indices) + v ≤ length (now words)) ⌝ }
     requires once { ⌜ Once (now indices) ⌝ }
-    ensures { λ r. ⌜ now (words .exit) ≡ sets (now (words .entry)) at (map coded (links (now (indices .entry)))) ⌝ }
+    ensures { λ r. ⌜ now (words .exit) ≡ sets (sets (now (words .entry)) at (map coded (links (now (indices .entry))))) (at + length (now (indices .entry))) (cage v (now (indices .entry)) .starts) ⌝ }
 {
     let mut heads = [0u32; 4096];
     let mut nexts = [0u32; 12288];
     sides::chain(indices, &mut heads, &mut nexts);
     sides::put_links(indices, &heads, &nexts, words, at);
-}
-
-// The start corners of its v vertices.
-pub fn start_words(indices: &[u32], v: usize, words: &mut [u32], at: usize)
-    requires { ⌜ Faces (now indices) × Below 4096 (now indices) × (v ≤ 4096) × (at + v ≤ length (now words)) ⌝ }
-    ensures { λ r. ⌜ now (words .exit) ≡ sets (now (words .entry)) at (cage v (now (indices .entry)) .starts) ⌝ }
-{
-    let mut heads = [0u32; 4096];
-    let mut nexts = [0u32; 12288];
-    sides::chain(indices, &mut heads, &mut nexts);
-    sides::put_starts(&heads, v, words, at);
+    sides::put_starts(&heads, v, words, at + indices.len());
 }
 
 // 13, on a face list that passed all else.

@@ -202,7 +202,8 @@ pub fn onward(s: usize) -> usize
     requires { ⌜ mesh.onward s < 18446744073709551616 ⌝ }
     ensures { λ r. ⌜ r ≡ mesh.onward s ⌝ }
 {
-    if s % 3 == 2 { s - 2 } else { s + 1 }
+    let t = s + 1;
+    if t % 3 == 0 { t - 3 } else { t }
 }
 
 // The side before it.

@@ -152,10 +152,8 @@ pub fn load_words(indices: &[u32], nv: usize, words: &mut [u32])
     requires room { ⌜ 2 * length (now indices) + nv ≤ length (now words) ⌝ }
     ensures { λ r. ⌜ now (words .exit) ≡ sets (now (words .entry)) 0 (loaded nv (now (indices .entry))) ⌝ }
 {
-    let n = indices.len();
     copy_words(indices, words);
-    cage::link_words(indices, words, n);
-    cage::start_words(indices, nv, words, 2 * n);
+    cage::link_words(indices, nv, words, indices.len());
 }
 
 // Where level i starts, in parts of n entries.
