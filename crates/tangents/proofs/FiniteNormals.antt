@@ -40,11 +40,11 @@ use Rattle.tangents.proofs.Rings.{three-long}
 -- ---- sine and cosine are at most 1, each entry computed
 
 cos-small : map (λ z. sized 1 1 (entry z)) cosTable ≡ replicate 147 true
-unfolding ofInt div
+unfolding cosTable ofInt div
 cos-small = refl
 
 sin-small : map (λ z. sized 1 1 (entry z)) sinTable ≡ replicate 147 true
-unfolding ofInt div
+unfolding sinTable ofInt div
 sin-small = refl
 
 small-at : (l : List ℤ) → map (λ z. sized 1 1 (entry z)) l ≡ replicate 147 true → (i : ℕ) → i < 147 → Size 1 1 (entry (getD l i (pos 0)))

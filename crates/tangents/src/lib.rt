@@ -3,9 +3,11 @@ use faces::Ring;
 use faces::VertNo;
 use faces::one_ring;
 use turns::cosine;
+use turns::cosines;
 use turns::half_cosine;
 use turns::half_sine;
 use turns::sine;
+use turns::sines;
 use vectors::Vec3;
 use weights::points::point;
 use weights::points::put;
@@ -16,6 +18,7 @@ ghost use Prim.Native.Nat.{_+_, _*_, _≤_, _<_};
 ghost use lib.ListN.{length, take};
 ghost use lib.Seq.{sets};
 ghost use Rattle.lists.specs.Lists.{count, gather};
+ghost use Rattle.turns.specs.Table.{Tables};
 ghost use Rattle.turns.specs.Turns.{mostValence};
 ghost use Rattle.vectors.specs.Vectors.{cross};
 ghost use Rattle.rules.specs.Tangents.{innerTangents, rimWeight, rimTangent, rimTangents, threeOf};
@@ -29,7 +32,8 @@ pub struct Tangents {
 }
 
 // "S and T begin at zero and add r_i times cos(2 pi i/n), sin(2 pi i/n), i from 0", to the valence.
-pub fn inner_tangents(ring: [Vec3; 16], n: usize) -> Tangents
+pub fn inner_tangents(cos: &[i32], sin: &[i32], ring: [Vec3; 16], n: usize) -> Tangents
+    requires { ⌜ Tables (now cos) (now sin) ⌝ }
     requires { ⌜ (3 ≤ n) × (n ≤ mostValence) ⌝ }
     ensures { λ r. ⌜ r ≡ both (innerTangents (take n ring)) ⌝ }
 {
@@ -38,19 +42,20 @@ pub fn inner_tangents(ring: [Vec3; 16], n: usize) -> Tangents
     let mut i = 0usize;
     while i < n {
         let r = ring[i];
-        s = s.add(r.mul(cosine(i, n)));
-        t = t.add(r.mul(sine(i, n)));
+        s = s.add(r.mul(cosine(cos, i, n)));
+        t = t.add(r.mul(sine(sin, i, n)));
         i += 1usize;
     }
     Tangents { s: s, t: t }
 }
 
 // (2 cos theta - 2) sin(k theta), theta the half turn over m.
-fn rim_weight(m: usize, k: usize) -> f32
+fn rim_weight(cos: &[i32], sin: &[i32], m: usize, k: usize) -> f32
+    requires { ⌜ Tables (now cos) (now sin) ⌝ }
     requires { ⌜ (3 ≤ m) × (m ≤ mostValence) × (k ≤ m) ⌝ }
     ensures { λ r. ⌜ r ≡ rimWeight m k ⌝ }
 {
-    (2.0 * half_cosine(1, m) - 2.0) * half_sine(k, m)
+    (2.0 * half_cosine(cos, 1, m) - 2.0) * half_sine(sin, k, m)
 }
 
 // T at valence 4: -r0 + 2 r1 + 2 r2 - r3 - 2p.
@@ -65,25 +70,27 @@ fn rim_tangent_4(p: Vec3, a: Vec3, b: Vec3, c: Vec3, d: Vec3) -> Vec3
 }
 
 // T from valence 5 on.
-fn rim_tangent_5(p: Vec3, ring: [Vec3; 16], n: usize) -> Vec3
+fn rim_tangent_5(cos: &[i32], sin: &[i32], p: Vec3, ring: [Vec3; 16], n: usize) -> Vec3
+    requires { ⌜ Tables (now cos) (now sin) ⌝ }
     requires { ⌜ (5 ≤ n) × (n ≤ mostValence) ⌝ }
     ensures { λ r. ⌜ r ≡ rimTangent p (take n ring) ⌝ }
 {
     let m = n - 1;
     let first = ring[0];
     let last = ring[m];
-    let mut t = first.add(last).mul(half_sine(1, m));
+    let mut t = first.add(last).mul(half_sine(sin, 1, m));
     let mut k = 1usize;
     while k < m {
         let r = ring[k];
-        t = t.add(r.mul(rim_weight(m, k)));
+        t = t.add(r.mul(rim_weight(cos, sin, m, k)));
         k += 1usize;
     }
     t.neg()
 }
 
 // T at a rim point p.
-pub fn rim_tangent(p: Vec3, ring: [Vec3; 16], n: usize) -> Vec3
+pub fn rim_tangent(cos: &[i32], sin: &[i32], p: Vec3, ring: [Vec3; 16], n: usize) -> Vec3
+    requires { ⌜ Tables (now cos) (now sin) ⌝ }
     requires { ⌜ (2 ≤ n) × (n ≤ mostValence) ⌝ }
     ensures { λ r. ⌜ r ≡ rimTangent p (take n ring) ⌝ }
 {
@@ -103,11 +110,12 @@ pub fn rim_tangent(p: Vec3, ring: [Vec3; 16], n: usize) -> Vec3
         let d = ring[3];
         return rim_tangent_4(p, a, b, c, d);
     }
-    rim_tangent_5(p, ring, n)
+    rim_tangent_5(cos, sin, p, ring, n)
 }
 
 // S = last - first.
-pub fn rim_tangents(p: Vec3, ring: [Vec3; 16], n: usize) -> Tangents
+pub fn rim_tangents(cos: &[i32], sin: &[i32], p: Vec3, ring: [Vec3; 16], n: usize) -> Tangents
+    requires { ⌜ Tables (now cos) (now sin) ⌝ }
     requires { ⌜ (2 ≤ n) × (n ≤ mostValence) ⌝ }
     ensures { λ r. ⌜ r ≡ both (rimTangents p (take n ring)) ⌝ }
 {
@@ -115,12 +123,13 @@ pub fn rim_tangents(p: Vec3, ring: [Vec3; 16], n: usize) -> Tangents
     let first = ring[0];
     let last = ring[m];
     let s = last.sub(first);
-    let t = rim_tangent(p, ring, n);
+    let t = rim_tangent(cos, sin, p, ring, n);
     Tangents { s: s, t: t }
 }
 
 // At vertex v, from its ring.
-pub fn tangents_at(xs: &[f32], v: VertNo, ring: Ring) -> Tangents
+pub fn tangents_at(cos: &[i32], sin: &[i32], xs: &[f32], v: VertNo, ring: Ring) -> Tangents
+    requires { ⌜ Tables (now cos) (now sin) ⌝ }
     requires { ⌜ There (now xs) (v .0) × (AllThere (now xs) (ring .v) (ring .n) × (fewest (ring .rim) ≤ ring .n)) ⌝ }
     ensures { λ r. ⌜ r ≡ both (tangentsBy (now (xs .entry)) (v .0) ring) ⌝ }
 {
@@ -128,9 +137,9 @@ pub fn tangents_at(xs: &[f32], v: VertNo, ring: Ring) -> Tangents
     let n = ring.n;
     let rs = ring_points(xs, vs, n);
     if ring.rim {
-        rim_tangents(point(xs, v), rs, n)
+        rim_tangents(cos, sin, point(xs, v), rs, n)
     } else {
-        inner_tangents(rs, n)
+        inner_tangents(cos, sin, rs, n)
     }
 }
 
@@ -142,13 +151,23 @@ pub fn normal(p: Tangents) -> Vec3
 }
 
 // The normal at vertex v of the mesh that stands at `at`, from the limit positions xs.
-pub fn normal_at(words: &[u32], at: usize, nf: usize, nv: u32, xs: &[f32], v: VertNo) -> Vec3
+pub fn normal_at(
+    cos: &[i32],
+    sin: &[i32],
+    words: &[u32],
+    at: usize,
+    nf: usize,
+    nv: u32,
+    xs: &[f32],
+    v: VertNo,
+) -> Vec3
+    requires { ⌜ Tables (now cos) (now sin) ⌝ }
     requires { ⌜ Smooth (now words) at nf nv (now xs) × (v .0 < nv) ⌝ }
     ensures { λ r. ⌜ threeOf r ≡ normalIn (now (words .entry)) at nf nv (now (xs .entry)) (v .0) ⌝ }
 {
     let s = words[at + 6 * nf + v.0 as usize] as usize;
     let ring = one_ring(words, at, at + 3 * nf, nf, s);
-    normal(tangents_at(xs, v, ring))
+    normal(tangents_at(cos, sin, xs, v, ring))
 }
 
 // The normals of all its vertices.
@@ -156,9 +175,11 @@ pub fn normals(words: &[u32], at: usize, nf: usize, nv: u32, xs: &[f32], out: &m
     requires { ⌜ Smooth (now words) at nf nv (now xs) × (3 * nv ≤ length (now out)) ⌝ }
     ensures { λ r. ⌜ now (out .exit) ≡ sets (now (out .entry)) 0 (gather (normalIn (now (words .entry)) at nf nv (now (xs .entry))) (count 0 nv)) ⌝ }
 {
+    let cos = cosines();
+    let sin = sines();
     let mut v: u32 = 0;
     while v < nv {
-        let a = normal_at(words, at, nf, nv, xs, VertNo(v));
+        let a = normal_at(&cos, &sin, words, at, nf, nv, xs, VertNo(v));
         put(a, out, 3 * v as usize);
         v = v + 1;
     }

@@ -1,6 +1,6 @@
 -- The rule of the table: each of its numbers is the one that the series gives. Proved by one computed test over all of them for each of the two lists.
 -- Assumes nothing.
-use mathlib.Core.Path.{_≡_, refl, sym, ap, _∙_, subst}
+use mathlib.Core.Path.{_≡_, refl, sym, ap, subst}
 use mathlib.Core.Bool.{Bool, true, false}
 use mathlib.Core.List.{List}
 use mathlib.Core.Logic.{_⊎_, inl, inr}
@@ -9,13 +9,10 @@ use native.Mathlib.Nat.{not-suc-le-zero, le-of-suc-le-suc, eq-or-lt-of-le}
 use native.Mathlib.Omega.{arith}
 use lib.IntN.{ℤ, pos, negsuc}
 use lib.Dec.{T, eqb, leb, ltb, eqb→eq, leb→le, ltb→lt}
-use lib.ListN.{getD}
+use lib.ListN.{length, getD}
 use lib.Ieee.{binary32, inFloat, ofBits, ofInt}
-use mir.Syntax.{w32}
-use mir.Val.{SFits, toZ, ofZ}
-use mir.ValLaws.{toZ-ofZ}
 use Rattle.turns.specs.Turns.{mostValence, cosNumber, sinNumber}
-use Rattle.turns.specs.Table.{place, cosTable, sinTable}
+use Rattle.turns.specs.Table.{place, cosTable, sinTable, Has}
 
 -- ---- a test over all k / m
 abbrev both : Bool → Bool → Bool
@@ -82,12 +79,20 @@ abbrev right : List ℤ → (ℕ → ℕ → ℤ) → ℕ → ℕ → Bool
 right xs f k m = both (same (getD xs (place k m) (pos 0)) (f k m)) (small (getD xs (place k m) (pos 0)))
 
 cos-test : T (each (right cosTable cosNumber))
-unfolding cosNumber
+unfolding cosNumber cosTable
 cos-test = tt
 
 sin-test : T (each (right sinTable sinNumber))
-unfolding sinNumber
+unfolding sinNumber sinTable
 sin-test = tt
+
+cos-long : length cosTable ≡ place 0 (mostValence + 1)
+unfolding cosTable
+cos-long = refl
+
+sin-long : length sinTable ≡ place 0 (mostValence + 1)
+unfolding sinTable
+sin-long = refl
 
 module _ (xs : List ℤ) (f : ℕ → ℕ → ℤ) (t : T (each (right xs f))) (k m : ℕ) (lo : 3 ≤ m) (hi : m ≤ mostValence) (h : k ≤ m) where
   abbrev z : ℤ
@@ -104,39 +109,6 @@ cos-rule = rule cosTable cosNumber cos-test
 
 pub sin-rule : (k m : ℕ) → 3 ≤ m → m ≤ mostValence → k ≤ m → getD sinTable (place k m) (pos 0) ≡ sinNumber k m
 sin-rule = rule sinTable sinNumber sin-test
-
--- ---- a small number as the machine has it: an i32, and an f32
-small-in : (z : ℤ) → T (small z) → T (inFloat binary32 z)
-unfolding inFloat
-small-in (pos a) t = t
-small-in (negsuc a) t = t
-
-fits : (z : ℤ) → T (small z) → SFits w32 z
-fits (pos a) t = record { sfits = go a (leb→le a 16777216 t) }
-  where
-    go : (a : ℕ) → a ≤ 16777216 → a < 2147483648
-    go a h = omega arith
-fits (negsuc a) t = record { sfits = go a (ltb→lt a 16777216 t) }
-  where
-    go : (a : ℕ) → a < 16777216 → a < 2147483648
-    go a h = omega arith
-
--- what is read at the place i, and that its cast loses nothing
-abbrev pub Read : List ℤ → ℕ → ℤ → Type 0
-Read xs i w = (toZ w32 (ofZ w32 (getD xs i (pos 0))) ≡ w) × T (inFloat binary32 (toZ w32 (ofZ w32 (getD xs i (pos 0)))))
-
-read : (xs : List ℤ) (f : ℕ → ℕ → ℤ) → T (each (right xs f)) → (k m : ℕ) → 3 ≤ m → m ≤ mostValence → k ≤ m → Read xs (place k m) (f k m)
-read xs f t k m lo hi h =
-    let z = getD xs (place k m) (pos 0) in
-    let s = bounded xs f t k m lo hi h in
-    let e : toZ w32 (ofZ w32 z) ≡ z = toZ-ofZ w32 z (fits z s) in
-    (e ∙ rule xs f t k m lo hi h, subst (λ (w : ℤ). T (inFloat binary32 w)) (sym e) (small-in z s))
-
-pub cos-read : (k m i : ℕ) → i ≡ place k m → 3 ≤ m → m ≤ mostValence → k ≤ m → Read cosTable i (cosNumber k m)
-cos-read k m i e lo hi h = subst (λ (j : ℕ). Read cosTable j (cosNumber k m)) (sym e) (read cosTable cosNumber cos-test k m lo hi h)
-
-pub sin-read : (k m i : ℕ) → i ≡ place k m → 3 ≤ m → m ≤ mostValence → k ≤ m → Read sinTable i (sinNumber k m)
-sin-read k m i e lo hi h = subst (λ (j : ℕ). Read sinTable j (sinNumber k m)) (sym e) (read sinTable sinNumber sin-test k m lo hi h)
 
 -- the code's 2 ^ 24, which MIR has by its pattern
 pub unit : ofBits binary32 0x4b80_0000 ≡ ofInt binary32 (pos 16777216)
@@ -157,3 +129,22 @@ placed k m lo hi h =
     let c = ltb (place k m) (place 0 (mostValence + 1)) in
     let z : T (sound k m) = at sound sound-test k m lo hi h in
     (leb→le 6 (m * (m + 1) / 2) (both-left a (both b c) z), leb→le (m * (m + 1)) 4096 (both-left b c (both-right a (both b c) z)), ltb→lt (place k m) (place 0 (mostValence + 1)) (both-right b c (both-right a (both b c) z)))
+
+-- ---- a lent table
+small-in : (z : ℤ) → T (small z) → T (inFloat binary32 z)
+unfolding inFloat
+small-in (pos a) t = t
+small-in (negsuc a) t = t
+
+-- it has k / m, and there the rule's number
+abbrev pub Serves : List ℤ → (ℕ → ℕ → ℤ) → ℕ → ℕ → Type 0
+Serves xs f k m = Has xs k m × (getD xs (place k m) (pos 0) ≡ f k m)
+
+serves : (xs : List ℤ) (f : ℕ → ℕ → ℤ) → length xs ≡ place 0 (mostValence + 1) → T (each (right xs f)) → (k m : ℕ) → 3 ≤ m → m ≤ mostValence → k ≤ m → Serves xs f k m
+serves xs f l t k m lo hi h = (record { there = rw l (placed k m lo hi h .2); held = small-in _ (bounded xs f t k m lo hi h) }, rule xs f t k m lo hi h)
+
+pub cos-serves : (xs : List ℤ) → xs ≡ cosTable → (k m : ℕ) → 3 ≤ m → m ≤ mostValence → k ≤ m → Serves xs cosNumber k m
+cos-serves xs e k m lo hi h = rw e (serves cosTable cosNumber cos-long cos-test k m lo hi h)
+
+pub sin-serves : (xs : List ℤ) → xs ≡ sinTable → (k m : ℕ) → 3 ≤ m → m ≤ mostValence → k ≤ m → Serves xs sinNumber k m
+sin-serves xs e k m lo hi h = rw e (serves sinTable sinNumber sin-long sin-test k m lo hi h)

@@ -1,8 +1,10 @@
 // Sine and cosine from a table for k / m of a half turn, m from 3 to the largest valence.
 ghost use mathlib.Core.Path.{_≡_};
 ghost use Prim.Native.Nat.{_+_, _≤_, _<_};
-ghost use Rattle.turns.specs.Table.{place};
-ghost use Rattle.turns.specs.Turns.{mostValence, halfCosine, halfSine, cosine, sine};
+ghost use lib.IntN.{pos};
+ghost use lib.ListN.{getD};
+ghost use Rattle.turns.specs.Table.{place, cosTable, sinTable, Has};
+ghost use Rattle.turns.specs.Turns.{mostValence, entry, halfCosine, halfSine, cosine, sine};
 
 pub const MOST_VALENCE: usize = 16;
 
@@ -316,42 +318,64 @@ fn place(k: usize, m: usize) -> usize
     m * (m + 1) / 2 - 6 + k
 }
 
-pub fn half_cosine(k: usize, m: usize) -> f32
+// A constant array is written out wherever it is named, so a caller makes each table once and lends it.
+pub fn cosines() -> [i32; SIZE]
+    ensures { λ r. ⌜ r ≡ cosTable ⌝ }
+{
+    COS
+}
+
+pub fn sines() -> [i32; SIZE]
+    ensures { λ r. ⌜ r ≡ sinTable ⌝ }
+{
+    SIN
+}
+
+fn entry(table: &[i32], k: usize, m: usize) -> f32
+    requires { ⌜ (3 ≤ m) × (m ≤ mostValence) × (k ≤ m) ⌝ }
+    requires { ⌜ Has (now table) k m ⌝ }
+    ensures { λ r. ⌜ r ≡ entry (getD (now (table .entry)) (place k m) (pos 0)) ⌝ }
+{
+    let i = place(k, m);
+    (table[i] as f32) / 16777216.0
+}
+
+pub fn half_cosine(cos: &[i32], k: usize, m: usize) -> f32
+    requires { ⌜ now cos ≡ cosTable ⌝ }
     requires { ⌜ (3 ≤ m) × (m ≤ mostValence) × (k ≤ m) ⌝ }
     ensures { λ r. ⌜ r ≡ halfCosine k m ⌝ }
 {
-    let i = place(k, m);
-    let e = COS[i];
-    (e as f32) / 16777216.0
+    entry(cos, k, m)
 }
 
-pub fn half_sine(k: usize, m: usize) -> f32
+pub fn half_sine(sin: &[i32], k: usize, m: usize) -> f32
+    requires { ⌜ now sin ≡ sinTable ⌝ }
     requires { ⌜ (3 ≤ m) × (m ≤ mostValence) × (k ≤ m) ⌝ }
     ensures { λ r. ⌜ r ≡ halfSine k m ⌝ }
 {
-    let i = place(k, m);
-    let e = SIN[i];
-    (e as f32) / 16777216.0
+    entry(sin, k, m)
 }
 
-pub fn cosine(i: usize, n: usize) -> f32
+pub fn cosine(cos: &[i32], i: usize, n: usize) -> f32
+    requires { ⌜ now cos ≡ cosTable ⌝ }
     requires { ⌜ (3 ≤ n) × (n ≤ mostValence) × (i < n) ⌝ }
     ensures { λ r. ⌜ r ≡ cosine i n ⌝ }
 {
     if 2 * i <= n {
-        half_cosine(2 * i, n)
+        half_cosine(cos, 2 * i, n)
     } else {
-        half_cosine(2 * (n - i), n)
+        half_cosine(cos, 2 * (n - i), n)
     }
 }
 
-pub fn sine(i: usize, n: usize) -> f32
+pub fn sine(sin: &[i32], i: usize, n: usize) -> f32
+    requires { ⌜ now sin ≡ sinTable ⌝ }
     requires { ⌜ (3 ≤ n) × (n ≤ mostValence) × (i < n) ⌝ }
     ensures { λ r. ⌜ r ≡ sine i n ⌝ }
 {
     if 2 * i <= n {
-        half_sine(2 * i, n)
+        half_sine(sin, 2 * i, n)
     } else {
-        -half_sine(2 * (n - i), n)
+        -half_sine(sin, 2 * (n - i), n)
     }
 }

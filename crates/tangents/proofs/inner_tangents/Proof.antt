@@ -13,11 +13,11 @@ use Rattle.tangents.proofs.inner_tangents.Statement.{statement}
 use Rattle.tangents.proofs.inner_tangents.Tie as tie
 
 abbrev Inv-loop : tie.InvT-loop
-Inv-loop n ring s₀ t₀ i₀ s t i =
+Inv-loop cos sin n ring s₀ t₀ i₀ s t i =
     (i ≤ n) × ((s ≡ weighted (λ j. cosine j n) 0 s₀ (take i ring)) × (t ≡ weighted (λ j. sine j n) 0 t₀ (take i ring)))
 
 abbrev μ-loop : tie.MeasureT-loop
-μ-loop n ring s₀ t₀ i₀ s t i = n - i
+μ-loop cos sin n ring s₀ t₀ i₀ s t i = n - i
 
 default-requires : tie.Need-default-requires Inv-loop μ-loop
 default-requires c κs = search needs
@@ -60,16 +60,17 @@ loop-less c = search needs
 
 loop-again : tie.Need-loop-again Inv-loop μ-loop
 loop-again c =
-    let a = c .before .before .before .before .before .before .before .before .before .before .before .args in
+    let start = c .before .before .before .before .before .before .before .before .before .before .before in
+    let a = start .args in
     let l = c .before .before .before .before .before .before .before .before .loop in
-    let r = getD (a .t1) (l .i) nowhere in
-    let h : l .i < length (a .t1) = omega (arith, c .before .before .before .before .before .before .before .before .before .before .before .good .0) in (
+    let r = getD (a .t3) (l .i) nowhere in
+    let h : l .i < length (a .t3) = omega (arith, start .good .1 .1 .0, start .pre .1 .1) in (
       omega arith,
       (
         adds r (c .before .before .before .add .ensures) (l .inv .1 .0) (c .before .before .before .before .mul .ensures) (c .before .before .before .before .before .cosine .ensures)
-            ∙ inner-next (λ j. cosine j (a .n)) (c .before .before .before .before .before .before .before .before .before .before .default .result) (a .t1) (l .i) nowhere h,
+            ∙ inner-next (λ j. cosine j (a .n)) (c .before .before .before .before .before .before .before .before .before .before .default .result) (a .t3) (l .i) nowhere h,
         adds r (c .add2 .ensures) (l .inv .1 .1) (c .before .mul2 .ensures) (c .before .before .sine .ensures)
-            ∙ inner-next (λ j. sine j (a .n)) (c .before .before .before .before .before .before .before .before .before .default2 .result) (a .t1) (l .i) nowhere h,
+            ∙ inner-next (λ j. sine j (a .n)) (c .before .before .before .before .before .before .before .before .before .default2 .result) (a .t3) (l .i) nowhere h,
       ),
     )
 
@@ -78,9 +79,9 @@ returns c =
     let a = c .before .before .before .before .args in
     let l = c .before .loop in
     let e : l .i ≡ a .n = omega arith in
-    inner-is (a .t1) (a .n) (l .s) (l .t) (omega arith)
-    (rw e at (l .inv .1 .0) ∙ ap (λ (t : Vec3). weighted (λ j. cosine j (a .n)) 0 t (take (a .n) (a .t1))) (c .before .before .before .default .ensures))
-    (rw e at (l .inv .1 .1) ∙ ap (λ (t : Vec3). weighted (λ j. sine j (a .n)) 0 t (take (a .n) (a .t1))) (c .before .before .default2 .ensures))
+    inner-is (a .t3) (a .n) (l .s) (l .t) (omega arith)
+    (rw e at (l .inv .1 .0) ∙ ap (λ (t : Vec3). weighted (λ j. cosine j (a .n)) 0 t (take (a .n) (a .t3))) (c .before .before .before .default .ensures))
+    (rw e at (l .inv .1 .1) ∙ ap (λ (t : Vec3). weighted (λ j. sine j (a .n)) 0 t (take (a .n) (a .t3))) (c .before .before .default2 .ensures))
 
 pub inner-tangents-spec : {M : Type 1} → statement M
 inner-tangents-spec =

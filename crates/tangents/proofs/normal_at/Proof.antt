@@ -38,11 +38,11 @@ add-one-ring : tie.Need-add-one-ring
 add-one-ring c = search needs
 
 one-ring-requires : tie.Need-one-ring-requires
-one-ring-requires c κs = let s = c .before .before .before .before in let a = s .args in ring-asks (now (a .words)) (a .at) (a .nf) (a .nv) (now (a .xs)) (s .pre .0) (a .v .0) (s .pre .1)
+one-ring-requires c κs = let s = c .before .before .before .before in let a = s .args in ring-asks (now (a .words)) (a .at) (a .nf) (a .nv) (now (a .xs)) (s .pre .1 .0) (a .v .0) (s .pre .1 .1)
 
 tangents-at-requires : tie.Need-tangents-at-requires
 tangents-at-requires c κs =
-    let s = c .before .before .before .before .before in let a = s .args in tangents-ask (now (a .words)) (a .at) (a .nf) (a .nv) (now (a .xs)) (s .pre .0) (a .v .0) (s .pre .1) (c .one-ring .result) (c .one-ring .ensures)
+    let s = c .before .before .before .before .before in let a = s .args in (s .pre .0, tangents-ask (now (a .words)) (a .at) (a .nf) (a .nv) (now (a .xs)) (s .pre .1 .0) (a .v .0) (s .pre .1 .1) (c .one-ring .result) (c .one-ring .ensures))
 
 normal-requires : tie.Need-normal-requires
 normal-requires c κs = search needs
@@ -52,7 +52,7 @@ returns c =
     let s = c .before .before .before .before .before .before .before in
     let a = s .args in
     ap threeOf (c .normal .ensures ∙ ap (λ (p : Tangents). cross (p .s) (p .t)) (c .before .tangents-at .ensures))
-    ∙ normal-held (now (a .words)) (a .at) (a .nf) (a .nv) (now (a .xs)) (s .pre .0) (a .v .0) (s .pre .1) (c .before .before .one-ring .result) (c .before .before .one-ring .ensures)
+    ∙ normal-held (now (a .words)) (a .at) (a .nf) (a .nv) (now (a .xs)) (s .pre .1 .0) (a .v .0) (s .pre .1 .1) (c .before .before .one-ring .result) (c .before .before .one-ring .ensures)
 
 pub normal-at-spec : {M : Type 1} → statement M
 normal-at-spec =

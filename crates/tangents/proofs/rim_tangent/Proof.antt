@@ -30,8 +30,8 @@ returns : tie.Need-returns
 returns c =
     let a = c .before .before .before .before .before .before .args in
     let e : a .n ≡ 2 = omega arith in
-    c .sub .ensures ∙ ap₂ minus (c .before .before .add .ensures) (weighs (a .p) (c .before .mul .ensures) two) ∙ sym (rim-two (a .p) nowhere (a .t2) (omega arith))
-    ∙ ap (λ (k : ℕ). rimTangent (a .p) (take k (a .t2))) (sym e)
+    c .sub .ensures ∙ ap₂ minus (c .before .before .add .ensures) (weighs (a .p) (c .before .mul .ensures) two) ∙ sym (rim-two (a .p) nowhere (a .t4) (omega arith))
+    ∙ ap (λ (k : ℕ). rimTangent (a .p) (take k (a .t4))) (sym e)
 
 array-copy-out-b-2 : tie.Need-array-copy-out-b-2
 array-copy-out-b-2 c = search needs
@@ -43,7 +43,7 @@ returns-2 : tie.Need-returns-2
 returns-2 c =
     let a = c .before .before .before .before .args in
     let e : a .n ≡ 3 = omega arith in
-    c .sub2 .ensures ∙ sym (rim-three (a .p) nowhere (a .t2) (omega arith)) ∙ ap (λ (k : ℕ). rimTangent (a .p) (take k (a .t2))) (sym e)
+    c .sub2 .ensures ∙ sym (rim-three (a .p) nowhere (a .t4) (omega arith)) ∙ ap (λ (k : ℕ). rimTangent (a .p) (take k (a .t4))) (sym e)
 
 array-copy-out-a-2 : tie.Need-array-copy-out-a-2
 array-copy-out-a-2 c = search needs
@@ -64,7 +64,7 @@ returns-3 : tie.Need-returns-3
 returns-3 c =
     let a = c .before .before .before .before .before .before .before .before .args in
     let e : a .n ≡ 4 = omega arith in
-    c .rim-tangent-4 .ensures ∙ ap (rimTangent (a .p)) (sym (four-are (a .p) nowhere (a .t2) (omega arith)) ∙ ap (λ (k : ℕ). take k (a .t2)) (sym e))
+    c .rim-tangent-4 .ensures ∙ ap (rimTangent (a .p)) (sym (four-are (a .p) nowhere (a .t4) (omega arith)) ∙ ap (λ (k : ℕ). take k (a .t4)) (sym e))
 
 rim-tangent-5-requires : tie.Need-rim-tangent-5-requires
 rim-tangent-5-requires c κs = search needs

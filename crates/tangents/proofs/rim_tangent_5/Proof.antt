@@ -14,10 +14,10 @@ use Rattle.tangents.proofs.rim_tangent_5.Statement.{statement}
 use Rattle.tangents.proofs.rim_tangent_5.Tie as tie
 
 abbrev Inv-loop : tie.InvT-loop
-Inv-loop n ring m t₀ k₀ t k = (1 ≤ k) × ((k ≤ m) × (t ≡ weighted (rimWeight m) 1 t₀ (part 1 (k - 1) ring)))
+Inv-loop cos sin n ring m t₀ k₀ t k = (1 ≤ k) × ((k ≤ m) × (t ≡ weighted (rimWeight m) 1 t₀ (part 1 (k - 1) ring)))
 
 abbrev μ-loop : tie.MeasureT-loop
-μ-loop n ring m t₀ k₀ t k = m - k
+μ-loop cos sin n ring m t₀ k₀ t k = m - k
 
 sub-m : tie.Need-sub-m Inv-loop μ-loop
 sub-m c = search needs
@@ -66,13 +66,14 @@ loop-less c = search needs
 
 loop-again : tie.Need-loop-again Inv-loop μ-loop
 loop-again c =
-    let a = c .before .before .before .before .before .before .before .before .before .before .before .args in
+    let start = c .before .before .before .before .before .before .before .before .before .before .before in
+    let a = start .args in
     let l = c .before .before .before .before .before .loop in (
       omega arith,
       (
         omega arith,
-        adds (getD (a .t2) (l .k) nowhere) (c .add2 .ensures) (l .inv .1 .1) (c .before .mul2 .ensures) (c .before .before .rim-weight .ensures)
-            ∙ rim-next (rimWeight (a .n - 1)) (c .before .before .before .before .before .before .mul .result) (a .t2) (l .k) nowhere (omega arith) (omega arith),
+        adds (getD (a .t4) (l .k) nowhere) (c .add2 .ensures) (l .inv .1 .1) (c .before .mul2 .ensures) (c .before .before .rim-weight .ensures)
+            ∙ rim-next (rimWeight (a .n - 1)) (c .before .before .before .before .before .before .mul .result) (a .t4) (l .k) nowhere (omega arith) (omega (arith, start .good .1 .1 .1 .0, start .pre .1 .1)),
       ),
     )
 
@@ -87,8 +88,8 @@ returns c =
     let w = rimWeight (a .n - 1) in
     let t = c .before .before .before .mul .ensures ∙ ap₂ scaled (c .before .before .before .before .before .add .ensures) (c .before .before .before .before .half-sine .ensures) in
     c .neg .ensures
-    ∙ ap negated (l .inv .1 .1 ∙ ap (λ (j : ℕ). weighted w 1 (c .before .before .before .mul .result) (part 1 (j - 1) (a .t2))) e ∙ ap (λ (x : Vec3). weighted w 1 x (part 1 (a .n - 1 - 1) (a .t2))) t)
-    ∙ sym (rim-wide (a .p) nowhere (a .t2) (a .n) (omega arith) (omega arith))
+    ∙ ap negated (l .inv .1 .1 ∙ ap (λ (j : ℕ). weighted w 1 (c .before .before .before .mul .result) (part 1 (j - 1) (a .t4))) e ∙ ap (λ (x : Vec3). weighted w 1 x (part 1 (a .n - 1 - 1) (a .t4))) t)
+    ∙ sym (rim-wide (a .p) nowhere (a .t4) (a .n) (omega arith) (omega arith))
 
 pub rim-tangent-5-spec : {M : Type 1} → statement M
 rim-tangent-5-spec =

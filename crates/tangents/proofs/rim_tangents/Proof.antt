@@ -29,7 +29,7 @@ rim-tangent-requires c κs = search needs
 returns : tie.Need-returns
 returns c =
     let a = c .before .before .before .before .args in
-    ap₂ (λ (x y : Vec3). (let r : Tangents = record { s = x; t = y } in r)) (c .before .sub .ensures ∙ rim-ends (a .p) nowhere (a .t2) (a .n) (omega arith) (omega arith)) (c .rim-tangent .ensures)
+    ap₂ (λ (x y : Vec3). (let r : Tangents = record { s = x; t = y } in r)) (c .before .sub .ensures ∙ rim-ends (a .p) nowhere (a .t4) (a .n) (omega arith) (omega arith)) (c .rim-tangent .ensures)
 
 pub rim-tangents-spec : {M : Type 1} → statement M
 rim-tangents-spec =

@@ -19,17 +19,17 @@ point-requires : tie.Need-point-requires
 point-requires c κs = search needs
 
 rim-tangents-requires : tie.Need-rim-tangents-requires
-rim-tangents-requires c κs = let s = c .before .before .before .before .before in (rw (c .before .if1 .taken) at (s .pre .1 .1), s .pre .1 .0 .few)
+rim-tangents-requires c κs = let s = c .before .before .before .before .before in (s .pre .0, (rw (c .before .if1 .taken) at (s .pre .1 .1 .1), s .pre .1 .1 .0 .few))
 
 inner-tangents-requires : tie.Need-inner-tangents-requires
-inner-tangents-requires c κs = let s = c .before .before .before .before in (rw (c .if1 .left) at (s .pre .1 .1), s .pre .1 .0 .few)
+inner-tangents-requires c κs = let s = c .before .before .before .before in (s .pre .0, (rw (c .if1 .left) at (s .pre .1 .1 .1), s .pre .1 .1 .0 .few))
 
 points : (c : tie.After-ring-points) → take (c .before .before .before .args .ring .n) (c .ring-points .result) ≡ map (point (now (c .before .before .before .args .xs))) (numbers (take (c .before .before .before .args .ring .n) (c .before .before .before .args .ring .v)))
 points c =
     let s = c .before .before .before in
     let r = s .args .ring in
-    let l : length (r .v) ≡ 16 = sym (length-map (r .v) _) ∙ s .good .1 .1 .0 .1 .1 .0 .1 .0 .1 in
-    ap (take (r .n)) (c .ring-points .ensures) ∙ points-are (now (s .args .xs)) (r .v) (r .n) (s .pre .1 .0 .few) (omega (arith, s .pre .1 .0 .few))
+    let l : length (r .v) ≡ 16 = sym (length-map (r .v) _) ∙ s .good .1 .1 .1 .1 .0 .1 .1 .0 .1 .0 .1 in
+    ap (take (r .n)) (c .ring-points .ensures) ∙ points-are (now (s .args .xs)) (r .v) (r .n) (s .pre .1 .1 .0 .few) (omega (arith, s .pre .1 .1 .0 .few))
 
 returns : tie.Need-returns
 returns c =
