@@ -2,41 +2,42 @@
 use mathlib.Core.Path.{_≡_, refl, ap, ap₂, _∙_}
 use Prim.Native.Nat.{ℕ, _+_, _*_, _≤_, _<_}
 use native.Mathlib.Omega.{arith}
-use mathlib.Core.Bool.{true, false}
 use mathlib.Core.List.{List, map}
 use mathlib.Core.Option.{Option}
-use lib.ListN.{length, getD, take, replicate}
-use lib.Seq.{sets}
+use lib.ListN.{length, getD, take, replicate, length-map}
+use lib.Seq.{sets, length-sets}
 use lib.Ieee.{Float}
 use Rattle.lists.specs.Lists.{count, gather, part}
 use Rattle.lists.proofs.Stores.{part-of, piece-more}
 use Rattle.vectors.specs.declared.Vec3.{Vec3}
 use Rattle.vectors.specs.Vectors.{origin}
-use Rattle.rules.specs.Mesh.{links, Fan, inner, rim, fan, valence, ring, Mesh}
-use Rattle.rules.specs.Tangents.{Pair, point, innerTangents, rimTangents, tangentsAt, normal, threeOf, normalAt}
+use Rattle.rules.specs.Mesh.{links, Fan, fan, ring, Mesh}
+use Rattle.rules.specs.Tangents.{Pair, point, tangentsAt, normal, threeOf, normalAt}
 use Rattle.rules.proofs.Turns.{Turned, round, fringe, turned}
-use Rattle.rules.proofs.Levels.{Small}
 use Rattle.faces.specs.Words.{linksIn}
-use Rattle.faces.specs.Rings.{Ringable, ringOf}
-use Rattle.faces.specs.declared.VertNo.{VertNo}
+use Rattle.faces.specs.Rings.{Ringable, isRim, ringOf}
 use Rattle.faces.specs.declared.Ring.{Ring}
-use Rattle.faces.proofs.Held.{start-ringable, start-ring, length-ring}
-use Rattle.weights.specs.Lent.{numbers, There, AllThere, sixteen}
-use Rattle.weights.proofs.Gathered.{gathered-length}
-use Rattle.weights.proofs.Joins.{numbers-held, ringAt, there, ring-there}
+use Rattle.faces.proofs.Held.{start-ringable, start-ring, start-ring-of, length-ring}
+use Rattle.weights.specs.Lent.{There, AllThere, sixteen}
+use Rattle.weights.proofs.Joins.{fanAt, ringAt, there, ring-few, ring-there}
 use Rattle.levels.specs.Level.{meshIn}
 use Rattle.tangents.specs.Normals.{tangentsBy, fewest, Smooth, normalIn}
 use Rattle.tangents.proofs.Valence.{ring-fewest}
 
--- the first n of sixteen points
-pub points-are : (xs : List Float) (vs : List VertNo) (n : ℕ) → n ≤ 16 → n ≤ length vs →
-    take n (sixteen (map (point xs) (numbers (take n vs)))) ≡ map (point xs) (numbers (take n vs))
-points-are xs vs n few h = part-of (map (point xs) (numbers (take n vs))) (replicate 16 origin) 0 n (gathered-length (point xs) vs n h) (omega arith)
+-- the points of a ring, among sixteen
+pub points-are : (xs : List Float) (vs : List ℕ) → length vs ≤ 16 → take (length vs) (sixteen (map (point xs) vs)) ≡ map (point xs) vs
+points-are xs vs few = part-of (map (point xs) vs) (replicate 16 origin) 0 (length vs) (length-map vs (point xs)) (omega arith)
 
 -- the tangents by the ring of a fan are those of document 01
-tangents-of : (n : ℕ) (fs : List ℕ) (xs : List Float) (u s : ℕ) (f : Fan) → Turned n fs s f → valence f ≤ 16 → tangentsBy xs u (ringOf fs f) ≡ tangentsAt fs xs u f
-tangents-of n fs xs u s _ (round cs r) few = ap (λ (l : List ℕ). innerTangents (map (point xs) l)) (numbers-held (ring fs (inner cs)) false (rw (length-ring fs (inner cs)) few))
-tangents-of n fs xs u s _ (fringe cs r) few = ap (λ (l : List ℕ). rimTangents (point xs u) (map (point xs) l)) (numbers-held (ring fs (rim cs)) true (rw (length-ring fs (rim cs)) few))
+tangents-of : (n : ℕ) (fs : List ℕ) (xs : List Float) (u s : ℕ) (f : Fan) → Turned n fs s f → tangentsBy xs u (isRim f) (ring fs f) ≡ tangentsAt fs xs u f
+tangents-of n fs xs u s _ (round cs r) = refl
+tangents-of n fs xs u s _ (fringe cs r) = refl
+
+-- what a ring r, held in o, is good for: its tangents may be asked for, and give the normal a of vertex u
+pub record Ringed (xs : List Float) (u : ℕ) (r : Ring) (o : List ℕ) (a : List Float) : Type 0 where
+  pub room : r .n ≤ length o
+  pub asks : There xs u × (AllThere xs (take (r .n) o) × (fewest (r .rim) ≤ length (take (r .n) o)))
+  pub gives : threeOf (normal (tangentsBy xs u (r .rim) (take (r .n) o))) ≡ a
 
 -- vertex u of the mesh that stands in the words
 module _ (w : List ℕ) (at n v : ℕ) (xs : List Float) (h : Smooth w at n v xs) (u : ℕ) (k : u < v) where
@@ -46,37 +47,41 @@ module _ (w : List ℕ) (at n v : ℕ) (xs : List Float) (h : Smooth w at n v xs
   abbrev start : ℕ
   start = getD (mesh .starts) u 0
 
-  few : valence (fan (links (mesh .faces)) start) ≤ 16
-  unfolding Small
-  few = h .small u k
-
   -- its ring may be walked
   pub ring-asks : Ringable w at (at + 3 * n) n (getD w (at + 6 * n + u) 0)
   ring-asks = start-ringable w at n mesh (h .holds) (h .sound) u k (h .small)
 
-  module _ (r : Ring) (e : r ≡ ringOf (part at (3 * n) w) (fan (linksIn w (at + 3 * n) (3 * n)) (getD w (at + 6 * n + u) 0))) where
-    ring-is : r ≡ ringAt mesh u
-    ring-is = e ∙ start-ring w at n mesh (h .holds) (h .sound) u k
+  few : length (ringAt mesh u) ≤ 16
+  few = ring-few n mesh (h .sound) (h .small) u k
 
-    -- its tangents may be asked for
-    pub tangents-ask : There xs u × (AllThere xs (r .v) (r .n) × (fewest (r .rim) ≤ r .n))
-    tangents-ask =
-        let f = fan (links (mesh .faces)) start in
-        let l : 3 * v ≤ length xs = omega (arith, h .sized) in (
-          there l k,
-          rw ring-is (
-            ring-there n mesh (h .sound) (h .small) u k l,
-            rw (length-ring (mesh .faces) f) (ring-fewest v n (mesh .faces) (h .sound .good) start (h .sound .below u k)),
-          ),
-        )
+  asks : There xs u × (AllThere xs (ringAt mesh u) × (fewest (isRim (fanAt mesh u)) ≤ length (ringAt mesh u)))
+  asks =
+      let l : 3 * v ≤ length xs = omega (arith, h .sized) in (
+        there l k,
+        (
+          ring-there n mesh (h .sound) (h .small) u k l,
+          rw (length-ring (mesh .faces) (fanAt mesh u)) (ring-fewest v n (mesh .faces) (h .sound .good) start (h .sound .below u k)),
+        ),
+      )
 
-    -- and give its normal
-    pub normal-held : threeOf (normal (tangentsBy xs u r)) ≡ normalIn w at n v xs u
-    unfolding normalAt
-    normal-held =
-        ap (λ (p : Pair). threeOf (normal p))
-        (ap (tangentsBy xs u) ring-is
-        ∙ tangents-of n (mesh .faces) xs u start (fan (links (mesh .faces)) start) (turned v n (mesh .faces) (h .sound .good) start (h .sound .below u k)) few)
+  gives : threeOf (normal (tangentsBy xs u (isRim (fanAt mesh u)) (ringAt mesh u))) ≡ normalIn w at n v xs u
+  unfolding normalAt
+  gives = ap (λ (p : Pair). threeOf (normal p)) (tangents-of n (mesh .faces) xs u start (fanAt mesh u) (turned v n (mesh .faces) (h .sound .good) start (h .sound .below u k)))
+
+  -- its ring as `one_ring` leaves it, in the numbers l that were lent
+  pub ring-left : (r : Ring) (l o : List ℕ) → 16 ≤ length l →
+      (r ≡ ringOf (part at (3 * n) w) (fan (linksIn w (at + 3 * n) (3 * n)) (getD w (at + 6 * n + u) 0))) ×
+      (o ≡ sets l 0 (ring (part at (3 * n) w) (fan (linksIn w (at + 3 * n) (3 * n)) (getD w (at + 6 * n + u) 0)))) →
+      Ringed xs u r o (normalIn w at n v xs u)
+  ring-left r l o long e =
+      let c : r .n ≡ length (ringAt mesh u) = ap (λ (y : Ring). y .n) is in
+      let b : r .rim ≡ isRim (fanAt mesh u) = ap (λ (y : Ring). y .rim) is in
+      let f : o ≡ sets l 0 (ringAt mesh u) = e .1 ∙ ap (sets l 0) (start-ring w at n mesh (h .holds) (h .sound) u k) in
+      let t : take (r .n) o ≡ ringAt mesh u = ap₂ (λ (j : ℕ) (y : List ℕ). take j y) c f ∙ part-of (ringAt mesh u) l 0 (length (ringAt mesh u)) refl (omega (arith, few)) in
+      record { room = rw (c, f, length-sets) (omega (arith, few)); asks = rw (t, b) asks; gives = rw (t, b) gives }
+    where
+      is : r ≡ ringOf (mesh .faces) (fanAt mesh u)
+      is = e .0 ∙ start-ring-of w at n mesh (h .holds) (h .sound) u k
 
 pub three-long : (m : Mesh) (ls : List (Option ℕ)) (xs : List Float) (v : ℕ) → length (normalAt m ls xs v) ≡ 3
 unfolding normalAt

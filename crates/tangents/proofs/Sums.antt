@@ -14,7 +14,7 @@ use Rattle.vectors.specs.declared.Vec3.{Vec3}
 use Rattle.vectors.specs.Vectors.{plus, minus, negated, scaled, origin}
 use Rattle.turns.specs.Turns.{cosine, sine, halfSine}
 use Rattle.rules.specs.Position.{f32}
-use Rattle.rules.specs.Tangents.{point, weighted, rimWeight, innerTangents, allButLast, rimTangent}
+use Rattle.rules.specs.Tangents.{weighted, rimWeight, innerTangents, allButLast, rimTangent}
 use Rattle.tangents.specs.Normals.{both}
 use Rattle.tangents.specs.declared.Tangents.{Tangents}
 
@@ -60,15 +60,14 @@ inner-next w t l i d h =
     ap (λ (j : ℕ). plus (weighted w 0 t (take i l)) (scaled (getD l j d) (w j))) (sym e)
     ∙ sym (weighted-next w 0 t l i d (omega arith)) ∙ ap (λ (j : ℕ). weighted w 0 t (take j l)) (sym (add-one i))
 
--- ---- tangents by the first n of a ring
+-- ---- tangents by a ring, and on the rim by its first n
 
-pub inner-is : (ring : List Vec3) (n : ℕ) (s t : Vec3) → n ≤ length ring → s ≡ weighted (λ i. cosine i n) 0 origin (take n ring) → t ≡ weighted (λ i. sine i n) 0 origin (take n ring) →
-    _≡_ {A = Tangents} (record { s = s; t = t }) (both (innerTangents (take n ring)))
-inner-is ring n s t h e f =
-    let m : n ≡ length (take n ring) = sym (length-take-le n ring h) in
-    let a : s ≡ weighted (λ i. cosine i (length (take n ring))) 0 origin (take n ring) = e ∙ ap (λ (k : ℕ). weighted (λ i. cosine i k) 0 origin (take n ring)) m in
-    let b : t ≡ weighted (λ i. sine i (length (take n ring))) 0 origin (take n ring) = f ∙ ap (λ (k : ℕ). weighted (λ i. sine i k) 0 origin (take n ring)) m in
-    ap₂ (λ (x y : Vec3). (let r : Tangents = record { s = x; t = y } in r)) a b
+pub inner-is : (rs : List Vec3) (n : ℕ) (s t : Vec3) → n ≡ length rs → s ≡ weighted (λ i. cosine i n) 0 origin rs → t ≡ weighted (λ i. sine i n) 0 origin rs →
+    _≡_ {A = Tangents} (record { s = s; t = t }) (both (innerTangents rs))
+inner-is rs n s t m e f =
+    ap₂ (λ (x y : Vec3). (let r : Tangents = record { s = x; t = y } in r))
+    (e ∙ ap (λ (k : ℕ). weighted (λ i. cosine i k) 0 origin rs) m)
+    (f ∙ ap (λ (k : ℕ). weighted (λ i. sine i k) 0 origin rs) m)
 
 module _ (p d : Vec3) where
   pub rim-two : (l : List Vec3) → 2 ≤ length l → rimTangent p (take 2 l) ≡ minus (plus (getD l 0 d) (getD l 1 d)) (scaled p (f32 2))

@@ -3,7 +3,7 @@ use Prim.Native.Nat.{ℕ, _*_}
 use mathlib.Core.Path.{_≡_}
 use mathlib.Core.Bool.{Bool}
 use mathlib.Core.List.{List, map}
-use lib.ListN.{length, take}
+use lib.ListN.{length}
 use lib.Ieee.{Float}
 use Rattle.lists.specs.Lists.{pick}
 use Rattle.turns.specs.Turns.{mostValence}
@@ -12,8 +12,6 @@ use Rattle.rules.specs.Tangents.{point, Pair, innerTangents, rimTangents, norma
 use Rattle.rules.proofs.Sound.{Sound}
 use Rattle.rules.proofs.Levels.{Small}
 use Rattle.faces.specs.Words.{Holds}
-use Rattle.faces.specs.declared.Ring.{Ring}
-use Rattle.weights.specs.Lent.{numbers}
 use Rattle.levels.specs.Level.{meshIn}
 use Rattle.tangents.specs.declared.Tangents.{Tangents}
 
@@ -21,10 +19,8 @@ abbrev pub both : Pair → Tangents
 both p = record { s = p .s; t = p .t }
 
 -- at vertex v, from its ring
-abbrev pub tangentsBy : List Float → ℕ → Ring → Pair
-tangentsBy xs v r =
-    let rs = map (point xs) (numbers (take (r .n) (r .v))) in
-    pick (r .rim) (rimTangents (point xs v) rs) (innerTangents rs)
+abbrev pub tangentsBy : List Float → ℕ → Bool → List ℕ → Pair
+tangentsBy xs v rim vs = let rs = map (point xs) vs in pick rim (rimTangents (point xs v) rs) (innerTangents rs)
 
 -- the fewest in a ring: two on the rim, three round an inner vertex
 abbrev pub fewest : Bool → ℕ

@@ -1,5 +1,4 @@
 // Document 01, "Tangents use limit positions of vertex and ring", in f32: each operation rounded once, in the written order.
-use faces::Ring;
 use faces::VertNo;
 use faces::one_ring;
 use turns::cosine;
@@ -13,7 +12,7 @@ use weights::points::point;
 use weights::points::put;
 use weights::points::ring_points;
 ghost use mathlib.Core.Path.{_≡_};
-ghost use mathlib.Core.List.{[], _∷_};
+ghost use mathlib.Core.List.{[], _∷_, map};
 ghost use Prim.Native.Nat.{_+_, _*_, _≤_, _<_};
 ghost use lib.ListN.{length, take};
 ghost use lib.Seq.{sets};
@@ -21,7 +20,7 @@ ghost use Rattle.lists.specs.Lists.{count, gather};
 ghost use Rattle.turns.specs.Table.{Tables};
 ghost use Rattle.turns.specs.Turns.{mostValence};
 ghost use Rattle.vectors.specs.Vectors.{cross};
-ghost use Rattle.rules.specs.Tangents.{innerTangents, rimWeight, rimTangent, rimTangents, threeOf};
+ghost use Rattle.rules.specs.Tangents.{point, innerTangents, rimWeight, rimTangent, rimTangents, threeOf};
 ghost use Rattle.weights.specs.Lent.{There, AllThere};
 ghost use Rattle.tangents.specs.Normals.{both, tangentsBy, fewest, Smooth, normalIn};
 
@@ -32,16 +31,17 @@ pub struct Tangents {
 }
 
 // "S and T begin at zero and add r_i times cos(2 pi i/n), sin(2 pi i/n), i from 0", to the valence.
-pub fn inner_tangents(cos: &[i32], sin: &[i32], ring: [Vec3; 16], n: usize) -> Tangents
+pub fn inner_tangents(cos: &[i32], sin: &[i32], xs: &[f32], ring: &[u32]) -> Tangents
     requires { ⌜ Tables (now cos) (now sin) ⌝ }
-    requires { ⌜ (3 ≤ n) × (n ≤ mostValence) ⌝ }
-    ensures { λ r. ⌜ r ≡ both (innerTangents (take n ring)) ⌝ }
+    requires { ⌜ (3 ≤ length (now ring)) × AllThere (now xs) (now ring) ⌝ }
+    ensures { λ r. ⌜ r ≡ both (innerTangents (map (point (now (xs .entry))) (now (ring .entry)))) ⌝ }
 {
+    let n = ring.len();
     let mut s = Vec3::default();
     let mut t = Vec3::default();
     let mut i = 0usize;
     while i < n {
-        let r = ring[i];
+        let r = point(xs, VertNo(ring[i]));
         s = s.add(r.mul(cosine(cos, i, n)));
         t = t.add(r.mul(sine(sin, i, n)));
         i += 1usize;
@@ -128,18 +128,22 @@ pub fn rim_tangents(cos: &[i32], sin: &[i32], p: Vec3, ring: [Vec3; 16], n: usiz
 }
 
 // At vertex v, from its ring.
-pub fn tangents_at(cos: &[i32], sin: &[i32], xs: &[f32], v: VertNo, ring: Ring) -> Tangents
+pub fn tangents_at(
+    cos: &[i32],
+    sin: &[i32],
+    xs: &[f32],
+    v: VertNo,
+    ring: &[u32],
+    rim: bool,
+) -> Tangents
     requires { ⌜ Tables (now cos) (now sin) ⌝ }
-    requires { ⌜ There (now xs) (v .0) × (AllThere (now xs) (ring .v) (ring .n) × (fewest (ring .rim) ≤ ring .n)) ⌝ }
-    ensures { λ r. ⌜ r ≡ both (tangentsBy (now (xs .entry)) (v .0) ring) ⌝ }
+    requires { ⌜ There (now xs) (v .0) × (AllThere (now xs) (now ring) × (fewest rim ≤ length (now ring))) ⌝ }
+    ensures { λ r. ⌜ r ≡ both (tangentsBy (now (xs .entry)) (v .0) rim (now (ring .entry))) ⌝ }
 {
-    let vs = ring.v;
-    let n = ring.n;
-    let rs = ring_points(xs, vs, n);
-    if ring.rim {
-        rim_tangents(cos, sin, point(xs, v), rs, n)
+    if rim {
+        rim_tangents(cos, sin, point(xs, v), ring_points(xs, ring), ring.len())
     } else {
-        inner_tangents(cos, sin, rs, n)
+        inner_tangents(cos, sin, xs, ring)
     }
 }
 
@@ -166,8 +170,9 @@ pub fn normal_at(
     ensures { λ r. ⌜ threeOf r ≡ normalIn (now (words .entry)) at nf nv (now (xs .entry)) (v .0) ⌝ }
 {
     let s = words[at + 6 * nf + v.0 as usize] as usize;
-    let ring = one_ring(words, at, at + 3 * nf, nf, s);
-    normal(tangents_at(cos, sin, xs, v, ring))
+    let mut vs: [u32; 16] = [0; 16];
+    let ring = one_ring(words, at, at + 3 * nf, nf, s, &mut vs);
+    normal(tangents_at(cos, sin, xs, v, &vs[..ring.n], ring.rim))
 }
 
 // The normals of all its vertices.

@@ -1,11 +1,16 @@
-use Rattle.vectors.specs.declared.Vec3.{Vec3}
+use denote.Ref.{now}
 use Prim.Native.Nat.{_-_, _≤_, _<_}
-use mathlib.Core.Path.{_≡_, refl, ap, _∙_}
+use mathlib.Core.Path.{_≡_, refl, sym, ap, _∙_}
+use mathlib.Core.List.{map}
 use native.Mathlib.Omega.{arith}
-use lib.ListN.{length, take, getD}
+use lib.ListN.{length, take, getD, length-map}
+use lib.Seq.{take-all}
 use borrow.Author.Needs.{needs}
+use Rattle.lists.proofs.Places.{getD-map}
+use Rattle.vectors.specs.declared.Vec3.{Vec3}
+use Rattle.vectors.specs.Vectors.{scaled}
 use Rattle.turns.specs.Turns.{cosine, sine}
-use Rattle.rules.specs.Tangents.{weighted}
+use Rattle.rules.specs.Tangents.{point, weighted}
 use Rattle.weights.specs.Weights.{nowhere}
 use Rattle.weights.proofs.Floats.{adds}
 use Rattle.tangents.proofs.Sums.{inner-next, inner-is}
@@ -13,11 +18,11 @@ use Rattle.tangents.proofs.inner_tangents.Statement.{statement}
 use Rattle.tangents.proofs.inner_tangents.Tie as tie
 
 abbrev Inv-loop : tie.InvT-loop
-Inv-loop cos sin n ring s₀ t₀ i₀ s t i =
-    (i ≤ n) × ((s ≡ weighted (λ j. cosine j n) 0 s₀ (take i ring)) × (t ≡ weighted (λ j. sine j n) 0 t₀ (take i ring)))
+Inv-loop cos sin xs ring n s₀ t₀ i₀ s t i =
+    (i ≤ n) × ((s ≡ weighted (λ j. cosine j n) 0 s₀ (take i (map (point xs) ring))) × (t ≡ weighted (λ j. sine j n) 0 t₀ (take i (map (point xs) ring))))
 
 abbrev μ-loop : tie.MeasureT-loop
-μ-loop cos sin n ring s₀ t₀ i₀ s t i = n - i
+μ-loop cos sin xs ring n s₀ t₀ i₀ s t i = n - i
 
 default-requires : tie.Need-default-requires Inv-loop μ-loop
 default-requires c κs = search needs
@@ -26,13 +31,16 @@ default-requires-2 : tie.Need-default-requires-2 Inv-loop μ-loop
 default-requires-2 c κs = search needs
 
 loop-holds : tie.Need-loop-holds Inv-loop μ-loop
-loop-holds c = (omega arith, (refl, refl))
+loop-holds c = (search needs, (refl, refl))
 
-mul-r : tie.Need-mul-r Inv-loop μ-loop
-mul-r c = search needs
+mul-t11 : tie.Need-mul-t11 Inv-loop μ-loop
+mul-t11 c = search needs
 
-array-copy-out-r : tie.Need-array-copy-out-r Inv-loop μ-loop
-array-copy-out-r c = search needs
+shared-slice-read-t13 : tie.Need-shared-slice-read-t13 Inv-loop μ-loop
+shared-slice-read-t13 c = search needs
+
+point-requires : tie.Need-point-requires Inv-loop μ-loop
+point-requires c κs = let l = c .before .before in l .before .before .before .before .before .pre .1 .1 .at (l .loop .i) (omega arith)
 
 cosine-requires : tie.Need-cosine-requires Inv-loop μ-loop
 cosine-requires c κs = search needs
@@ -53,35 +61,44 @@ add-requires-2 : tie.Need-add-requires-2 Inv-loop μ-loop
 add-requires-2 c κs = search needs
 
 add-i : tie.Need-add-i Inv-loop μ-loop
-add-i c = search needs
+add-i c = let l = c .before .before .before .before .before .before .before .before .before in omega (arith, l .before .before .before .before .before .pre .1 .1 .few)
 
 loop-less : tie.Need-loop-less Inv-loop μ-loop
 loop-less c = search needs
 
 loop-again : tie.Need-loop-again Inv-loop μ-loop
 loop-again c =
-    let start = c .before .before .before .before .before .before .before .before .before .before .before in
-    let a = start .args in
-    let l = c .before .before .before .before .before .before .before .before .loop in
-    let r = getD (a .t3) (l .i) nowhere in
-    let h : l .i < length (a .t3) = omega (arith, start .good .1 .1 .0, start .pre .1 .1) in (
-      omega arith,
+    let k = c .before .before .before in
+    let p = k .before .before .before in
+    let l = p .before .before .before in
+    let d = l .before in
+    let a = d .before .before .before .before .args in
+    let n = length (now (a .ring)) in
+    let i = l .loop .i in
+    let rs = map (point (now (a .xs))) (now (a .ring)) in
+    let q : p .point .result ≡ getD rs i nowhere = p .point .ensures ∙ sym (getD-map (point (now (a .xs))) (now (a .ring)) i 0 nowhere (omega arith)) in
+    let h : i < length rs = omega (arith, length-map (now (a .ring)) (point (now (a .xs)))) in (
+      search needs,
       (
-        adds r (c .before .before .before .add .ensures) (l .inv .1 .0) (c .before .before .before .before .mul .ensures) (c .before .before .before .before .before .cosine .ensures)
-            ∙ inner-next (λ j. cosine j (a .n)) (c .before .before .before .before .before .before .before .before .before .before .default .result) (a .t3) (l .i) nowhere h,
-        adds r (c .add2 .ensures) (l .inv .1 .1) (c .before .mul2 .ensures) (c .before .before .sine .ensures)
-            ∙ inner-next (λ j. sine j (a .n)) (c .before .before .before .before .before .before .before .before .before .default2 .result) (a .t3) (l .i) nowhere h,
+        adds (getD rs i nowhere) (k .add .ensures) (l .loop .inv .1 .0) (k .before .mul .ensures ∙ ap (λ (v : Vec3). scaled v (k .before .before .cosine .result)) q) (k .before .before .cosine .ensures)
+            ∙ inner-next (λ j. cosine j n) (d .before .default .result) rs i nowhere h,
+        adds (getD rs i nowhere) (c .add2 .ensures) (l .loop .inv .1 .1) (c .before .mul2 .ensures ∙ ap (λ (v : Vec3). scaled v (c .before .before .sine .result)) q) (c .before .before .sine .ensures)
+            ∙ inner-next (λ j. sine j n) (d .default2 .result) rs i nowhere h,
       ),
     )
 
 returns : tie.Need-returns Inv-loop μ-loop
 returns c =
-    let a = c .before .before .before .before .args in
-    let l = c .before .loop in
-    let e : l .i ≡ a .n = omega arith in
-    inner-is (a .t3) (a .n) (l .s) (l .t) (omega arith)
-    (rw e at (l .inv .1 .0) ∙ ap (λ (t : Vec3). weighted (λ j. cosine j (a .n)) 0 t (take (a .n) (a .t3))) (c .before .before .before .default .ensures))
-    (rw e at (l .inv .1 .1) ∙ ap (λ (t : Vec3). weighted (λ j. sine j (a .n)) 0 t (take (a .n) (a .t3))) (c .before .before .default2 .ensures))
+    let l = c .before in
+    let d = l .before in
+    let a = d .before .before .before .before .args in
+    let n = length (now (a .ring)) in
+    let rs = map (point (now (a .xs))) (now (a .ring)) in
+    let e : length rs ≡ n = length-map (now (a .ring)) (point (now (a .xs))) in
+    let all : take (l .loop .i) rs ≡ rs = take-all (l .loop .i) rs (omega arith) in
+    inner-is rs n (l .loop .s) (l .loop .t) (sym e)
+    (rw all at (l .loop .inv .1 .0) ∙ ap (λ (t : Vec3). weighted (λ j. cosine j n) 0 t rs) (d .before .default .ensures))
+    (rw all at (l .loop .inv .1 .1) ∙ ap (λ (t : Vec3). weighted (λ j. sine j n) 0 t rs) (d .default2 .ensures))
 
 pub inner-tangents-spec : {M : Type 1} → statement M
 inner-tangents-spec =
@@ -92,8 +109,9 @@ inner-tangents-spec =
     default-requires
     default-requires-2
     loop-holds
-    mul-r
-    array-copy-out-r
+    mul-t11
+    shared-slice-read-t13
+    point-requires
     cosine-requires
     mul-requires
     add-requires

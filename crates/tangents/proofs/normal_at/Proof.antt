@@ -1,11 +1,14 @@
 use denote.Ref.{now}
 use Prim.Native.Nat.{_+_, _*_}
-use mathlib.Core.Path.{ap, _∙_}
+use mathlib.Core.Path.{sym, ap, _∙_}
 use native.Mathlib.Omega.{arith}
+use lib.ListN.{replicate}
+use lib.Seq.{length-take-le}
 use Rattle.vectors.specs.Vectors.{cross}
 use Rattle.rules.specs.Tangents.{threeOf}
+use Rattle.tangents.specs.Normals.{normalIn}
 use Rattle.tangents.specs.declared.Tangents.{Tangents}
-use Rattle.tangents.proofs.Rings.{ring-asks, tangents-ask, normal-held}
+use Rattle.tangents.proofs.Rings.{Ringed, ring-asks, ring-left}
 use borrow.Author.Needs.{needs}
 use Rattle.tangents.proofs.normal_at.Statement.{statement}
 use Rattle.tangents.proofs.normal_at.Tie as tie
@@ -37,22 +40,39 @@ mul-one-ring c = search needs
 add-one-ring : tie.Need-add-one-ring
 add-one-ring c = search needs
 
+slice-aggregate-one-ring : tie.Need-slice-aggregate-one-ring
+slice-aggregate-one-ring c = search needs
+
 one-ring-requires : tie.Need-one-ring-requires
-one-ring-requires c κs = let s = c .before .before .before .before in let a = s .args in ring-asks (now (a .words)) (a .at) (a .nf) (a .nv) (now (a .xs)) (s .pre .1 .0) (a .v .0) (s .pre .1 .1)
+one-ring-requires c κs =
+    let s = c .before .before .before .before .before in
+    let a = s .args in
+    (ring-asks (now (a .words)) (a .at) (a .nf) (a .nv) (now (a .xs)) (s .pre .1 .0) (a .v .0) (s .pre .1 .1), search needs)
+
+ring : (c : tie.After-one-ring) →
+    (let a = c .before .before .before .before .before .before .args in Ringed (now (a .xs)) (a .v .0) (c .one-ring .result) (c .one-ring .last .1 .1 .1 .1 .1 .0) (normalIn (now (a .words)) (a .at) (a .nf) (a .nv) (now (a .xs)) (a .v .0)))
+ring c =
+    let s = c .before .before .before .before .before .before in
+    let a = s .args in
+    ring-left (now (a .words)) (a .at) (a .nf) (a .nv) (now (a .xs)) (s .pre .1 .0) (a .v .0) (s .pre .1 .1) (c .one-ring .result) (replicate 16 0) (c .one-ring .last .1 .1 .1 .1 .1 .0) (search needs)
+    (c .one-ring .ensures)
+
+array-share-prefix-vs : tie.Need-array-share-prefix-vs
+array-share-prefix-vs c = ring (c .before) .room
+
+slice-aggregate-tangents-at : tie.Need-slice-aggregate-tangents-at
+slice-aggregate-tangents-at c = sym (length-take-le _ _ (ring (c .before .before) .room))
 
 tangents-at-requires : tie.Need-tangents-at-requires
-tangents-at-requires c κs =
-    let s = c .before .before .before .before .before in let a = s .args in (s .pre .0, tangents-ask (now (a .words)) (a .at) (a .nf) (a .nv) (now (a .xs)) (s .pre .1 .0) (a .v .0) (s .pre .1 .1) (c .one-ring .result) (c .one-ring .ensures))
+tangents-at-requires c κs = (c .before .before .before .before .before .before .before .before .pre .0, ring (c .before .before) .asks)
 
 normal-requires : tie.Need-normal-requires
 normal-requires c κs = search needs
 
 returns : tie.Need-returns
 returns c =
-    let s = c .before .before .before .before .before .before .before in
-    let a = s .args in
     ap threeOf (c .normal .ensures ∙ ap (λ (p : Tangents). cross (p .s) (p .t)) (c .before .tangents-at .ensures))
-    ∙ normal-held (now (a .words)) (a .at) (a .nf) (a .nv) (now (a .xs)) (s .pre .1 .0) (a .v .0) (s .pre .1 .1) (c .before .before .one-ring .result) (c .before .before .one-ring .ensures)
+    ∙ ring (c .before .before .before .before) .gives
 
 pub normal-at-spec : {M : Type 1} → statement M
 normal-at-spec =
@@ -67,7 +87,10 @@ normal-at-spec =
     cast-s-2
     mul-one-ring
     add-one-ring
+    slice-aggregate-one-ring
     one-ring-requires
+    array-share-prefix-vs
+    slice-aggregate-tangents-at
     tangents-at-requires
     normal-requires
     returns)
