@@ -50,20 +50,20 @@ fits k =
     ring-fits (now (s .args .words)) (s .args .at) (s .args .nf) (s .args .nv) (s .pre .0 .0) (s .args .u) (s .pre .0 .1) (k .one-ring .result) (k .one-ring .ensures .0) (replicate 16 0) (k .one-ring .last .1 .1 .1 .1 .1 .0) (omega arith) (k .one-ring .ensures .1)
 
 array-share-prefix-vs : tie.Need-array-share-prefix-vs
-array-share-prefix-vs c = fits (c .before .before)
+array-share-prefix-vs c = fits (c .before)
 
 slice-aggregate-vertex : tie.Need-slice-aggregate-vertex
-slice-aggregate-vertex c = sym (length-take-le _ _ (fits (c .before .before .before)))
+slice-aggregate-vertex c = sym (length-take-le _ _ (fits (c .before .before)))
 
 vertex-requires : tie.Need-vertex-requires
 vertex-requires c κs =
-    let k = c .before .before .before in
+    let k = c .before .before in
     let s = k .before .before .before .before in
     old-whole (now (s .args .words)) (s .args .at) (s .args .nf) (s .args .nv) (s .pre .0 .0) (s .args .u) (s .pre .0 .1) (k .one-ring .result) (k .one-ring .ensures .0) (replicate 16 0) (k .one-ring .last .1 .1 .1 .1 .1 .0) (omega arith) (k .one-ring .ensures .1) (s .pre .1 .0) (s .pre .1 .1)
 
 returns : tie.Need-returns
 returns c =
-    let k = c .before .before .before .before in
+    let k = c .before .before .before in
     let s = k .before .before .before .before in
     (moved-is (now (s .args .words)) (s .args .at) (s .args .nf) (s .args .nv) (s .pre .0 .0) (s .args .u) (s .pre .0 .1) (k .one-ring .result) (k .one-ring .ensures .0) (replicate 16 0) (k .one-ring .last .1 .1 .1 .1 .1 .0) (omega arith) (k .one-ring .ensures .1) whole limit (now (s .args .xs)) (lowered (c .vertex .result)) (c .vertex .ensures .0), c .vertex .ensures .1)
 

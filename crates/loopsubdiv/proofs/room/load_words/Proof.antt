@@ -24,7 +24,7 @@ same-length c = search needs
 
 returns : tie.Need-returns
 returns c =
-    let s = c .before .before .before .before .before .before .before .before .before in
+    let s = c .before .before .before .before .before .before .before .before .before .before in
     let fs = now (s .args .indices) in
     c .before .before .link-words .ensures
     ∙ ap (λ (x : List ℕ). sets (sets x (length fs) (map coded (links fs))) (length fs + length fs) (cage (s .args .nv) fs .starts)) (c .before .before .before .before .before .before .copy-words .ensures)
