@@ -19,6 +19,14 @@ Case = namedtuple("Case", "what kind levels indices coords lent five positions n
 Told = namedtuple("Told", "five harmed positions normals faces")
 
 
+class Unexpected(Exception):
+    """The reference refuses a cage that was made to be accepted."""
+
+    def __init__(self, case):
+        super().__init__(f"{case.what}: refused {case.five[0]} at {case.five[1]}")
+        self.case = case
+
+
 # ---- what must be answered
 
 def refused(what, kind, levels, indices, coords, lent, number, place):
@@ -34,10 +42,23 @@ def lengths(kind, vertices, faces, more=EXACT):
     return [needed.get(b, 0) + more[b] for b in range(5)]
 
 
-def by_reference(what, levels, indices, coords, more=EXACT, kind=ref.WHOLE):
-    r = (ref.loop_subdivide_whole if kind == ref.WHOLE else ref.loop_subdivide)(levels, indices, coords)
-    lent = lengths(kind, r.counts.vertices, r.counts.faces, more)
+def judged(what, kind, levels, indices, coords, lent=None):
+    """What the reference says, a refusal too. With no `lent` there is always room, and the case has yet to be given some."""
+    try:
+        cage = ref.read_sheet(indices) if kind == SHEET else (levels, indices, coords)
+        r = (ref.loop_subdivide if kind == ref.F32 else ref.loop_subdivide_whole)(*cage, lent)
+    except ref.Refused as no:
+        return refused(what, kind, levels, indices, coords, lent, no.number, no.place)
     return solved(what, kind, levels, indices, coords, lent, (0, 0, *r.counts), r.positions, r.indices, r.normals or ())
+
+
+def by_reference(what, levels, indices, coords, more=EXACT, kind=ref.WHOLE):
+    """A cage made to be accepted, lent what it needs and so much more."""
+    c = judged(what, kind, levels, indices, coords)
+    c = c._replace(lent=lengths(kind, *c.five[2:4], more))
+    if c.five[0]:
+        raise Unexpected(c)
+    return c
 
 
 def by_oracle(what, s):
