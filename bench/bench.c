@@ -1,9 +1,8 @@
 /* Times the calls of plates.h beside the yardstick, limit.c. Reads cases from standard input, each as how many cages it has, then for each cage levels, how many indices,
    how many coordinates, and those, all 32-bit words. Writes a line for each case: output faces, bytes of work room lent to the largest cage, and the nanoseconds of the
-   fastest run over all its cages: our whole call, the yardstick's, our f32 call, the yardstick's, and our whole call with no positions lent, which makes every check and
-   then refuses. Ends with status 1 where the two disagree (but for normals: the
-   yardstick has a library's sine). The argument is the number of repetitions; in each, all
-   take their turn. */
+   fastest run over all its cages: our whole call, the yardstick's, our f32 call, the yardstick's, our whole call with no positions lent, which makes every check and
+   then refuses, and, where RUST is defined, the mended Rust. Ends with status 1 where two of them disagree (but for normals: the yardstick and the Rust have a library's
+   sine). The argument is the number of repetitions; in each, all take their turn. */
 #include <stdint.h>
 #include <stdio.h>
 #include <stdlib.h>
@@ -18,6 +17,7 @@ typedef struct {
     uint32_t levels, n, m, *indices;
     int32_t *coords;
     float *floats;
+    void *for_rust;
 } cage;
 
 static cage cages[CAGES];
@@ -64,7 +64,40 @@ static void our_checks(const cage *c) {
     plates_loop_subdivide_whole(c->levels, c->indices, c->n, c->coords, c->m, ours, 0, our_faces, 3 * F, words, 16 * F + 8 * V, work, 6 * V, told);
 }
 
-static void (*const runs[])(const cage *) = {our_whole, their_whole, our_single, their_single, our_checks};
+/* oracle/src/lib.rs: the Rust has its own form of a cage, made before it is timed, and keeps its mesh to be read afterwards */
+#ifdef RUST
+void *oracle_cage(uint32_t levels, const uint32_t *indices, size_t n, const float *coords, size_t m);
+void oracle_free(void *);
+void oracle_subdivide(const void *);
+void oracle_mesh(uint32_t *counts, float *points, float *normals, uint32_t *corners);
+
+static void rust_single(const cage *c) { oracle_subdivide(c->for_rust); }
+
+static void rust_begin(cage *c) {
+    c->for_rust = oracle_cage(c->levels, c->indices, c->n, c->floats, c->m);
+    rust_single(c);
+    uint32_t counts[2];
+    oracle_mesh(counts, their_points, their_normals, their_faces);
+    result.vertices = counts[0];
+    result.faces = counts[1];
+}
+
+static void rust_end(cage *c) { oracle_free(c->for_rust); }
+#else
+static void rust_begin(cage *c) { (void)c; }
+static void rust_end(cage *c) { (void)c; }
+#endif
+
+static void (*const runs[])(const cage *) = {
+    our_whole,
+    their_whole,
+    our_single,
+    their_single,
+    our_checks,
+#ifdef RUST
+    rust_single,
+#endif
+};
 enum { RUNS = sizeof runs / sizeof *runs };
 
 static void agree(const void *mine, const void *its) {
@@ -98,6 +131,8 @@ int main(int argc, char **argv) {
             our_single(c);
             their_single(c);
             agree(our_points, their_points);
+            rust_begin(c);
+            agree(our_points, their_points);
             faces += told[3];
             uint64_t bytes = 4 * (16 * (uint64_t)told[3] + 14 * (uint64_t)told[2]);
             lent = bytes > lent ? bytes : lent;
@@ -120,6 +155,7 @@ int main(int argc, char **argv) {
             free(cages[i].indices);
             free(cages[i].coords);
             free(cages[i].floats);
+            rust_end(cages + i);
         }
     }
     return 0;

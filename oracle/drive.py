@@ -19,9 +19,9 @@ def value(b):
     return struct.unpack("<f", struct.pack("<I", b))[0]
 
 
-def build():
-    """The path of the program, or None where the source is absent. Any other trouble is an error."""
-    made = subprocess.run([HERE / "make"], stdin=subprocess.DEVNULL, stdout=subprocess.PIPE, text=True)
+def build(what="program"):
+    """The path of the program, or of the library; None where the source is absent. Any other trouble is an error."""
+    made = subprocess.run([HERE / "make", what], stdin=subprocess.DEVNULL, stdout=subprocess.PIPE, text=True)
     if made.returncode == 3:
         return None
     made.check_returncode()

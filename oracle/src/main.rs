@@ -1,20 +1,14 @@
 //! Runs the text of loopsubdiv.rs on cages from standard input. oracle/README.md has the format.
+mod cage;
 mod captured;
 mod core;
 mod shapes;
 mod turns;
 
+use crate::cage::{Cage, Form};
 use crate::core::geometry::point::Point3f;
-use crate::core::transform::Transform;
 use std::io::{BufWriter, Read, Write};
 use std::panic;
-use std::sync::Arc;
-
-struct Cage {
-    levels: usize,
-    indices: Vec<isize>,
-    points: Vec<Point3f>,
-}
 
 fn fail(why: &str) -> ! {
     eprintln!("oracle: {why}");
@@ -44,15 +38,13 @@ fn next_cage<'a>(words: &mut impl Iterator<Item = &'a str>) -> Option<Cage> {
     Some(Cage { levels, indices, points })
 }
 
-fn subdivide(mode: &str, cage: &Cage) {
-    let call = match mode {
+fn form(mode: &str) -> Form {
+    match mode {
         "unmended" => shapes::unmended::loop_subdivide,
         "mended" => shapes::mended::loop_subdivide,
         "tabled" => shapes::tabled::loop_subdivide,
         _ => fail("the mode is unmended, mended or tabled"),
-    };
-    let still = Arc::new(Transform);
-    call(still.clone(), still, false, cage.levels, &cage.indices, &cage.points);
+    }
 }
 
 fn print(out: &mut impl Write, mesh: &captured::Mesh) -> std::io::Result<()> {
@@ -74,14 +66,14 @@ fn print(out: &mut impl Write, mesh: &captured::Mesh) -> std::io::Result<()> {
 fn main() -> std::io::Result<()> {
     let args: Vec<String> = std::env::args().skip(1).collect();
     let before = args.iter().any(|a| a == "before-limit");
-    let mode = args.first().unwrap_or_else(|| fail("usage: oracle unmended|mended|tabled [before-limit] < cages"));
+    let form = form(args.first().unwrap_or_else(|| fail("usage: oracle unmended|mended|tabled [before-limit] < cages")));
     let mut text = String::new();
     std::io::stdin().read_to_string(&mut text)?;
     let mut words = text.split_ascii_whitespace();
     let mut out = BufWriter::new(std::io::stdout().lock());
     panic::set_hook(Box::new(|_| {}));
     while let Some(cage) = next_cage(&mut words) {
-        match panic::catch_unwind(|| subdivide(mode, &cage)) {
+        match panic::catch_unwind(|| cage.subdivide(form)) {
             Ok(()) => print(&mut out, &captured::take(before))?,
             Err(_) => writeln!(out, "panic")?,
         }

@@ -1,4 +1,4 @@
-//! The text of loopsubdiv.rs in its three forms, as oracle/make wrote them below build/.
+//! The text of loopsubdiv.rs in its forms, as oracle/make wrote them below build/.
 pub mod triangle;
 
 macro_rules! text {
@@ -13,3 +13,4 @@ macro_rules! text {
 text!(unmended, "unmended.rs");
 text!(mended, "mended.rs");
 text!(tabled, "tabled.rs");
+text!(timed, "timed.rs");
