@@ -80,7 +80,7 @@ module _ (w : List ℕ) (at n : ℕ) (m : Mesh) (h : Holds w at m) (g : Good (m 
   turn-ends s k e = fan-ends (m .verts) n (m .faces) g s k (sym (fan-held s) ∙ endless-is (fan (linksIn w (at + 3 * n) (3 * n)) s) e)
 
   pub ringable : (s : ℕ) → s < 3 * n → valence (fan (links (m .faces)) s) ≤ 16 → Ringable w at (at + 3 * n) n s
-  ringable s k v = record { walkable = walkable s k; room = omega (arith, room-held); few = rw (fan-held s) v }
+  ringable s k v = record { walkable = walkable s k; room = omega (arith, room-held); turns = λ e. fan-ends (m .verts) n (m .faces) g s k (sym (fan-held s) ∙ e); few = rw (fan-held s) v }
 
   pub ring-held : (s : ℕ) → ring (part at (3 * n) w) (fan (linksIn w (at + 3 * n) (3 * n)) s) ≡ ring (m .faces) (fan (links (m .faces)) s)
   ring-held s = ap₂ ring faces-held (fan-held s)

@@ -126,11 +126,6 @@ closed-long e q = let z : _≡_ {A = ℕ} 0 1 = cc in omega arith
 ended-long : {st : Stop} → st ≡ ended → st ≢ long
 ended-long e q = let z : _≡_ {A = ℕ} 0 1 = cc in omega arith
 
-not-inner : (cs : List ℕ) (st : Stop) (m : ℕ) → turnOf (rimFan cs st) ≢ turn.Inner m
-not-inner cs closed m q = let z : _≡_ {A = ℕ} 0 1 = cc in omega arith
-not-inner cs ended m q = let z : _≡_ {A = ℕ} 0 1 = cc in omega arith
-not-inner cs long m q = let z : _≡_ {A = ℕ} 0 1 = cc in omega arith
-
 pub endless-is : (f : Fan) → turnOf f ≡ turn.Endless → f ≡ endless
 endless-is (inner cs) q = absurd (let z : _≡_ {A = ℕ} 0 1 = cc in omega arith)
 endless-is (rim cs) q = absurd (let z : _≡_ {A = ℕ} 0 1 = cc in omega arith)
@@ -141,33 +136,39 @@ module _ (ls : List (Option ℕ)) (n s : ℕ) (size : length ls / 3 ≡ n) where
   unfolding fan
   fan-as = rw size
 
-  pub inner-is : (m : ℕ) → turnOf (fan ls s) ≡ turn.Inner m → IsInner ls n s
-  inner-is m q = go (stopOf (walk (nextCorner ls s) n (here s))) refl fan-as
+  -- by what the walk on found
+  pub inner-is : (m : ℕ) → tripOf (walk (nextCorner ls s) n (here s)) ≡ trip.Closed m → IsInner ls n s
+  inner-is m q = go (stopOf (walk (nextCorner ls s) n (here s))) refl fan-as q
     where
-      go : (st : Stop) → stopOf (walk (nextCorner ls s) n (here s)) ≡ st → fan ls s ≡ fanOf ls n (trail (nextCorner ls s) n (here s)) st → IsInner ls n s
-      go closed e f = record { is = f; stops = closed-long e }
-      go ended e f =
-          let l = lastOf 0 (trail (nextCorner ls s) n (here s)) in
-          absurd (not-inner (trail (prevCorner ls l) n (here l)) (stopOf (walk (prevCorner ls l) n (here l))) m (ap turnOf (sym f) ∙ q))
-      go long e f = absurd (let y = ap turnOf (sym f) ∙ q in let z : _≡_ {A = ℕ} 0 1 = cc in omega arith)
+      go : (st : Stop) → stopOf (walk (nextCorner ls s) n (here s)) ≡ st → fan ls s ≡ fanOf ls n (trail (nextCorner ls s) n (here s)) st → tripBy st (length (trail (nextCorner ls s) n (here s))) (lastOf 0 (trail (nextCorner ls s) n (here s))) ≡ trip.Closed m → IsInner ls n s
+      go closed e f y = record { is = f; stops = closed-long e }
+      go ended e f y = absurd (let z : _≡_ {A = ℕ} 0 1 = cc in omega arith)
+      go long e f y = absurd (let z : _≡_ {A = ℕ} 0 1 = cc in omega arith)
 
-  pub rim-is : 0 < n → (m e : ℕ) → turnOf (fan ls s) ≡ turn.Rim m e → IsRim ls n s e
-  rim-is some m e q = go (stopOf (walk (nextCorner ls s) n (here s))) fan-as
+  pub rim-is : fan ls s ≢ endless → (m e : ℕ) → tripOf (walk (nextCorner ls s) n (here s)) ≡ trip.Ended m e → IsRim ls n s e
+  rim-is turns m e q = go (stopOf (walk (nextCorner ls s) n (here s))) fan-as q
     where
       back : (l : ℕ) → lastOf 0 (trail (nextCorner ls s) n (here s)) ≡ l → (st : Stop) → stopOf (walk (prevCorner ls l) n (here l)) ≡ st
-          → fan ls s ≡ rimFan (trail (prevCorner ls l) n (here l)) st → IsRim ls n s e
-      back l a closed d f = absurd (let y = ap turnOf (sym f) ∙ q in let z : _≡_ {A = ℕ} 0 1 = cc in omega arith)
-      back l a ended d f =
-          let y = ap turnOf (sym f) ∙ q in
-          let r : getD (trail (prevCorner ls l) n (here l)) 0 0 ≡ e = cc in
-          let z : l ≡ e = sym (first-passed (prevCorner ls l) n l some) ∙ r in
-          subst (IsRim ls n s) z (record { is = f; stops = ended-long d; end = a })
-      back l a long d f = absurd (let y = ap turnOf (sym f) ∙ q in let z : _≡_ {A = ℕ} 0 1 = cc in omega arith)
+          → fan ls s ≡ rimFan (trail (prevCorner ls l) n (here l)) st → IsRim ls n s l
+      back l a closed d f = absurd (turns f)
+      back l a ended d f = record { is = f; stops = ended-long d; end = a }
+      back l a long d f = absurd (turns f)
 
-      go : (st : Stop) → fan ls s ≡ fanOf ls n (trail (nextCorner ls s) n (here s)) st → IsRim ls n s e
-      go closed f = absurd (let y = ap turnOf (sym f) ∙ q in let z : _≡_ {A = ℕ} 0 1 = cc in omega arith)
-      go ended f = back (lastOf 0 (trail (nextCorner ls s) n (here s))) refl (stopOf (walk (prevCorner ls (lastOf 0 (trail (nextCorner ls s) n (here s)))) n (here (lastOf 0 (trail (nextCorner ls s) n (here s)))))) refl f
-      go long f = absurd (let y = ap turnOf (sym f) ∙ q in let z : _≡_ {A = ℕ} 0 1 = cc in omega arith)
+      go : (st : Stop) → fan ls s ≡ fanOf ls n (trail (nextCorner ls s) n (here s)) st → tripBy st (length (trail (nextCorner ls s) n (here s))) (lastOf 0 (trail (nextCorner ls s) n (here s))) ≡ trip.Ended m e → IsRim ls n s e
+      go closed f y = absurd (let z : _≡_ {A = ℕ} 0 1 = cc in omega arith)
+      go ended f y =
+          let l = lastOf 0 (trail (nextCorner ls s) n (here s)) in
+          let z : l ≡ e = cc in
+          subst (IsRim ls n s) z (back l refl (stopOf (walk (prevCorner ls l) n (here l))) refl f)
+      go long f y = absurd (let z : _≡_ {A = ℕ} 0 1 = cc in omega arith)
+
+  pub long-is : tripOf (walk (nextCorner ls s) n (here s)) ≡ trip.Long → fan ls s ≡ endless
+  long-is q = go (stopOf (walk (nextCorner ls s) n (here s))) fan-as q
+    where
+      go : (st : Stop) → fan ls s ≡ fanOf ls n (trail (nextCorner ls s) n (here s)) st → tripBy st (length (trail (nextCorner ls s) n (here s))) (lastOf 0 (trail (nextCorner ls s) n (here s))) ≡ trip.Long → fan ls s ≡ endless
+      go closed f y = absurd (let z : _≡_ {A = ℕ} 0 1 = cc in omega arith)
+      go ended f y = absurd (let z : _≡_ {A = ℕ} 0 1 = cc in omega arith)
+      go long f y = f
 
 -- what the walk of a ring asks, where the valence is in bounds
 pub inner-ends : (ls : List (Option ℕ)) (n s m : ℕ) → IsInner ls n s → valence (fan ls s) ≤ m → Ends (nextCorner ls s) n s m

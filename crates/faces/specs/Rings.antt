@@ -23,10 +23,11 @@ pub record Walkable (w : List ℕ) (at n s : ℕ) : Type 0 where
   pub start : s < 3 * n
   pub linked : (i : ℕ) → i < 3 * n → getD w (at + i) 0 ≤ 3 * n
 
--- and what a ring asks: the corners of n faces stand from `corners` on, and the ring fits
+-- and what a ring asks: the corners of n faces stand from `corners` on, the walks end, and the ring fits
 pub record Ringable (w : List ℕ) (corners links n s : ℕ) : Type 0 where
   pub walkable : Walkable w links n s
   pub room : corners + 3 * n ≤ length w
+  pub turns : fan (linksIn w links (3 * n)) s ≢ endless
   pub few : valence (fan (linksIn w links (3 * n)) s) ≤ 16
 
 -- what the walk of a ring asks: it ends, and within so many corners

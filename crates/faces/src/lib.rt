@@ -428,7 +428,7 @@ fn rim_ring(
     n + 1
 }
 
-// The ring of the vertex of corner s, into the front of `out`.
+// The ring of the vertex of corner s, into the front of `out`. The walk on tells its kind, and on the rim its end corner; the checks have seen that the walk back ends.
 pub fn one_ring(
     words: &[u32],
     corners: usize,
@@ -441,15 +441,15 @@ pub fn one_ring(
     ensures ring { λ r. ⌜ r ≡ ringOf (part corners (3 * nf) (now (words .entry))) (mesh.fan (linksIn (now (words .entry)) links (3 * nf)) s) ⌝ }
     ensures out { λ r. ⌜ now (out .exit) ≡ sets (now (out .entry)) 0 (mesh.ring (part corners (3 * nf) (now (words .entry))) (mesh.fan (linksIn (now (words .entry)) links (3 * nf)) s)) ⌝ }
 {
-    match turn_round(words, links, nf, s) {
-        Turn::Inner(_) => Ring {
+    match by_next(words, links, nf, s) {
+        Trip::Closed(_) => Ring {
             n: inner_ring(words, corners, links, nf, s, out),
             rim: false,
         },
-        Turn::Rim(_, end) => Ring {
+        Trip::Ended(_, end) => Ring {
             n: rim_ring(words, corners, links, nf, end, out),
             rim: true,
         },
-        Turn::Endless => Ring { n: 0, rim: false },
+        Trip::Long => Ring { n: 0, rim: false },
     }
 }

@@ -9,10 +9,10 @@ use native.Mathlib.Omega.{arith}
 use lib.IntN.{ℤ}
 use lib.Ieee.{Float}
 use lib.ListN.{length, getD, take, drop}
-use lib.Seq.{sets, length-sets}
+use lib.Seq.{sets}
 use Rattle.lists.specs.Lists.{count, keep, gather, part}
 use Rattle.lists.proofs.Places.{length-count, length-gather, length-keep, rank-le}
-use Rattle.lists.proofs.Stores.{sets-next, part-of, part-outside, piece-more, kept-room, kept-more, kept-same, kept-count}
+use Rattle.lists.proofs.Stores.{sets-next, part-outside, piece-more, kept-room, kept-more, kept-same, kept-count}
 use Rattle.rules.specs.Mesh.{onward, backward, corner, links, isFirst, firstMet, firsts, fan, ring, Mesh}
 use Rattle.rules.specs.Position.{Stage, Numbers}
 use Rattle.rules.specs.Levels.{three, moved, edgeAt, newPositions}
@@ -20,12 +20,12 @@ use Rattle.rules.proofs.Sides.{length-links, on-below}
 use Rattle.rules.proofs.Refine.{Good, back-below}
 use Rattle.rules.proofs.Range.{AllNear}
 use Rattle.faces.specs.Words.{linkOf, coded, linksIn}
-use Rattle.faces.specs.Rings.{Ringable, isRim, ringOf}
+use Rattle.faces.specs.Rings.{Ringable, ringOf}
 use Rattle.faces.specs.declared.Ring.{Ring}
 use Rattle.faces.proofs.Links as words
-use Rattle.faces.proofs.Held.{link-coded, room-held, corner-word, corner-below, link-word, link-bound, start-below, start-ringable, start-ring, start-ring-of}
+use Rattle.faces.proofs.Held.{link-coded, room-held, corner-word, corner-below, link-word, link-bound, start-below, start-ringable}
 use Rattle.weights.specs.Lent.{byRing, onRim, within, Readable, AllReadable, There, AllThere}
-use Rattle.weights.proofs.Joins.{fanAt, ringAt, readable, there, ring-filled, ring-few, ring-readable, ring-there, moved-by, rim-edge, inner-edge}
+use Rattle.weights.proofs.Joins.{ringAt, readable, there, ring-filled, ring-readable, ring-there, moved-by, lent-rim, lent-fits, lent-ring, rim-edge, inner-edge}
 use Rattle.levels.specs.Level.{meshIn}
 use Rattle.levels.specs.Moves.{Movable, Placed, edgesIn, oldPoint, oldPoints, edgePoint, edgePoints}
 
@@ -69,19 +69,11 @@ module _ (w : List ℕ) (at n v : ℕ) (r : Movable w at n v) where
     -- its ring, in numbers that were lent
     module _ (x : Ring) (e : x ≡ ringOf (part at (3 * n) w) (fan (linksIn w (at + 3 * n) (3 * n)) (getD w (at + 6 * n + u) 0)))
         (l o : List ℕ) (long : 16 ≤ length l) (f : o ≡ sets l 0 (ring (part at (3 * n) w) (fan (linksIn w (at + 3 * n) (3 * n)) (getD w (at + 6 * n + u) 0)))) where
-      count-is : x .n ≡ length (ringAt m u)
-      count-is = ap (λ (y : Ring). y .n) (e ∙ start-ring-of w at n m (r .holds) (r .sound) u h)
-
-      rim-kind : x .rim ≡ isRim (fanAt m u)
-      rim-kind = ap (λ (y : Ring). y .rim) (e ∙ start-ring-of w at n m (r .holds) (r .sound) u h)
-
       pub ring-fits : x .n ≤ length o
-      ring-fits = omega (arith, count-is, ring-few n m (r .sound) (r .few) u h, ap length f ∙ length-sets l 0 (ring (part at (3 * n) w) (fan (linksIn w (at + 3 * n) (3 * n)) (getD w (at + 6 * n + u) 0))))
+      ring-fits = lent-fits w at n m (r .holds) (r .sound) (r .few) u h x e l o long f
 
       ring-is : take (x .n) o ≡ ringAt m u
-      ring-is =
-          ap₂ (λ (k : ℕ) (y : List ℕ). take k y) count-is (f ∙ ap (sets l 0) (start-ring w at n m (r .holds) (r .sound) u h))
-          ∙ part-of (ringAt m u) l 0 (length (ringAt m u)) refl (omega (arith, ring-few n m (r .sound) (r .few) u h))
+      ring-is = lent-ring w at n m (r .holds) (r .sound) (r .few) u h x e l o long f
 
       pub old-whole : {xs : List ℤ} → 3 * v ≤ length xs → AllNear xs → Readable xs u × ((0 < length (take (x .n) o)) × AllReadable xs (take (x .n) o))
       old-whole k a = rw ring-is (readable k a h, (ring-filled n m (r .sound) (r .few) u h, ring-readable n m (r .sound) (r .few) u h k a))
@@ -90,7 +82,7 @@ module _ (w : List ℕ) (at n v : ℕ) (r : Movable w at n v) where
       old-single k = rw ring-is (there k h, (ring-filled n m (r .sound) (r .few) u h, ring-there n m (r .sound) (r .few) u h k))
 
       pub moved-is : (𝓝 : Numbers) (s : Stage) (xs p : List (𝓝 .N)) → p ≡ three 𝓝 (byRing 𝓝 s xs u (x .rim) (take (x .n) o)) → p ≡ moved 𝓝 s m (links (part at (3 * n) w)) xs u
-      moved-is 𝓝 s xs p q = q ∙ ap₂ (λ (b : Bool) (y : List ℕ). three 𝓝 (byRing 𝓝 s xs u b y)) rim-kind ring-is ∙ moved-by n m (r .sound) (r .few) u h 𝓝 s xs
+      moved-is 𝓝 s xs p q = q ∙ ap₂ (λ (b : Bool) (y : List ℕ). three 𝓝 (byRing 𝓝 s xs u b y)) (lent-rim w at n m (r .holds) (r .sound) (r .few) u h x e l o long f) ring-is ∙ moved-by n m (r .sound) (r .few) u h 𝓝 s xs
 
   -- ---- an edge
 

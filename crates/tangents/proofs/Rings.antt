@@ -5,7 +5,7 @@ use native.Mathlib.Omega.{arith}
 use mathlib.Core.List.{List, map}
 use mathlib.Core.Option.{Option}
 use lib.ListN.{length, getD, take, replicate, length-map}
-use lib.Seq.{sets, length-sets}
+use lib.Seq.{sets}
 use lib.Ieee.{Float}
 use Rattle.lists.specs.Lists.{count, gather, part}
 use Rattle.lists.proofs.Stores.{part-of, piece-more}
@@ -17,9 +17,9 @@ use Rattle.rules.proofs.Turns.{Turned, round, fringe, turned}
 use Rattle.faces.specs.Words.{linksIn}
 use Rattle.faces.specs.Rings.{Ringable, isRim, ringOf}
 use Rattle.faces.specs.declared.Ring.{Ring}
-use Rattle.faces.proofs.Held.{start-ringable, start-ring, start-ring-of, length-ring}
+use Rattle.faces.proofs.Held.{start-ringable, length-ring}
 use Rattle.weights.specs.Lent.{There, AllThere, sixteen}
-use Rattle.weights.proofs.Joins.{fanAt, ringAt, there, ring-few, ring-there}
+use Rattle.weights.proofs.Joins.{fanAt, ringAt, there, ring-there, lent-rim, lent-fits, lent-ring}
 use Rattle.levels.specs.Level.{meshIn}
 use Rattle.tangents.specs.Normals.{tangentsBy, fewest, Smooth, normalIn}
 use Rattle.tangents.proofs.Valence.{ring-fewest}
@@ -51,9 +51,6 @@ module _ (w : List ℕ) (at n v : ℕ) (xs : List Float) (h : Smooth w at n v xs
   pub ring-asks : Ringable w at (at + 3 * n) n (getD w (at + 6 * n + u) 0)
   ring-asks = start-ringable w at n mesh (h .holds) (h .sound) u k (h .small)
 
-  few : length (ringAt mesh u) ≤ 16
-  few = ring-few n mesh (h .sound) (h .small) u k
-
   asks : There xs u × (AllThere xs (ringAt mesh u) × (fewest (isRim (fanAt mesh u)) ≤ length (ringAt mesh u)))
   asks =
       let l : 3 * v ≤ length xs = omega (arith, h .sized) in (
@@ -74,14 +71,9 @@ module _ (w : List ℕ) (at n v : ℕ) (xs : List Float) (h : Smooth w at n v xs
       (o ≡ sets l 0 (ring (part at (3 * n) w) (fan (linksIn w (at + 3 * n) (3 * n)) (getD w (at + 6 * n + u) 0)))) →
       Ringed xs u r o (normalIn w at n v xs u)
   ring-left r l o long e =
-      let c : r .n ≡ length (ringAt mesh u) = ap (λ (y : Ring). y .n) is in
-      let b : r .rim ≡ isRim (fanAt mesh u) = ap (λ (y : Ring). y .rim) is in
-      let f : o ≡ sets l 0 (ringAt mesh u) = e .1 ∙ ap (sets l 0) (start-ring w at n mesh (h .holds) (h .sound) u k) in
-      let t : take (r .n) o ≡ ringAt mesh u = ap₂ (λ (j : ℕ) (y : List ℕ). take j y) c f ∙ part-of (ringAt mesh u) l 0 (length (ringAt mesh u)) refl (omega (arith, few)) in
-      record { room = rw (c, f, length-sets) (omega (arith, few)); asks = rw (t, b) asks; gives = rw (t, b) gives }
-    where
-      is : r ≡ ringOf (mesh .faces) (fanAt mesh u)
-      is = e .0 ∙ start-ring-of w at n mesh (h .holds) (h .sound) u k
+      let t = lent-ring w at n mesh (h .holds) (h .sound) (h .small) u k r (e .0) l o long (e .1) in
+      let b = lent-rim w at n mesh (h .holds) (h .sound) (h .small) u k r (e .0) l o long (e .1) in
+      record { room = lent-fits w at n mesh (h .holds) (h .sound) (h .small) u k r (e .0) l o long (e .1); asks = rw (t, b) asks; gives = rw (t, b) gives }
 
 pub three-long : (m : Mesh) (ls : List (Option ℕ)) (xs : List Float) (v : ℕ) → length (normalAt m ls xs v) ≡ 3
 unfolding normalAt

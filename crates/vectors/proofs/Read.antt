@@ -17,7 +17,7 @@ use lib.Ieee.Nearest.{closest, closest-same}
 use lib.Ieee.Order.{drop}
 use lib.Ieee.Scale.{round-same}
 use Rattle.vectors.specs.Narrow.{narrowed, sign}
-use Rattle.vectors.proofs.Drop.{Cmp, cmp}
+use Rattle.vectors.proofs.Drop.{Cmp, cmp, dropped-is}
 use Rattle.vectors.proofs.Units.{size-exact, round-bits}
 
 -- ---- `narrowed` by any fraction that the value equals
@@ -246,6 +246,16 @@ out-high s (suc j) t T52 X g n = go (eqb (suc j) 2047) refl
         ∙ round-high s q j (lead-le t) (with-lead t T52) (more j g)
         ∙ ap (λ (k : ℕ). sign s + min (k * 2 ^ 23 + closest q (2 ^ 29)) (255 * 2 ^ 23)) (by j))
 
+-- ---- x units of 2 ^ 52 stay whole when 29 digits of x * 2 ^ 52 + t are dropped
+led : (x t : ℕ) → (x * 2 ^ 52 + t + (2 ^ 28 - 1) + (x * 2 ^ 52 + t) / 2 ^ 29 % 2) / 2 ^ 29 ≡ x * 2 ^ 23 + (t + (2 ^ 28 - 1) + t / 2 ^ 29 % 2) / 2 ^ 29
+led x t = ap (λ (p : ℕ). (x * 2 ^ 52 + t + (2 ^ 28 - 1) + p) / 2 ^ 29) (parity x t) ∙ shift x t (t / 2 ^ 29 % 2)
+  where
+    parity : (x t : ℕ) → (x * 2 ^ 52 + t) / 2 ^ 29 % 2 ≡ t / 2 ^ 29 % 2
+    parity x t = omega arith
+
+    shift : (x t p : ℕ) → (x * 2 ^ 52 + t + (2 ^ 28 - 1) + p) / 2 ^ 29 ≡ x * 2 ^ 23 + (t + (2 ^ 28 - 1) + p) / 2 ^ 29
+    shift x t p = omega arith
+
 -- ---- by the pattern b of the f64
 module _ (b : ℕ) where
   abbrev s : Bool
@@ -282,3 +292,16 @@ module _ (b : ℕ) where
 
   pub few-digits : (d : ℕ) → 29 ≤ d → (r : ℕ) → r ≡ closest (2 ^ 52 + t) (2 ^ d) → r ≤ 2 ^ 24
   few-digits d h r e = subst (λ (y : ℕ). y ≤ 2 ^ 24) (sym e) (few (2 ^ 52 + t) d (with-lead t t-lt) h)
+
+  -- the same where the field is carried along
+  split : b % 2 ^ 63 ≡ x * 2 ^ 52 + t
+  split = omega arith
+
+  pub carried : (r : ℕ) → r ≡ closest (b % 2 ^ 63) (2 ^ 29) → r + 2 ^ 23 ≡ x * 2 ^ 23 + closest (2 ^ 52 + t) (2 ^ 29)
+  carried r e =
+      let a = e ∙ ap (λ (y : ℕ). closest y (2 ^ 29)) split ∙ sym (dropped-is 29 (omega arith) (omega arith) (x * 2 ^ 52 + t)) ∙ led x t in
+      let c = sym (dropped-is 29 (omega arith) (omega arith) (2 ^ 52 + t)) ∙ led 1 t in
+      omega (arith, a, c)
+
+  pub same-digits : b % 2 ^ 63 % 2 ^ 52 ≡ t
+  same-digits = omega arith

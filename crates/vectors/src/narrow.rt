@@ -9,7 +9,7 @@ ghost use Rattle.vectors.specs.Narrow.{narrowed, sign};
 
 // q / 2^d to the nearest whole number, and at a tie to the even one.
 fn dropped(q: u64, d: u64) -> u64
-    requires { ⌜ (0 < d) × (d < 54) × (q < 2 ^ 53) ⌝ }
+    requires { ⌜ (0 < d) × (d < 54) × (q < 2 ^ 63) ⌝ }
     ensures { λ r. ⌜ r ≡ closest q (2 ^ d) ⌝ }
 {
     let half: u64 = 1 << (d - 1);
@@ -18,21 +18,22 @@ fn dropped(q: u64, d: u64) -> u64
 }
 
 // The pattern of the `f32` nearest to the finite `f64` or the infinity with the pattern b, its sign's bit cleared.
-// The f64 is digits * 2^(field - 1075), so in units of 2^-149, the least f32, digits * 2^(field - 926).
+// The f64 is digits * 2^(field - 1075), so in units of 2^-149, the least f32, digits * 2^(field - 926). From field 897 on the field itself is carried along:
+// 896 is what the two formats' fields differ by.
 fn magnitude(b: u64) -> u64
     requires { ⌜ T (not (nanBits binary64 b)) ⌝ }
     ensures { λ r. ⌜ sign (leb (2 ^ 63) b) + r ≡ toBits binary32 (narrowed (ofBits binary64 b)) ⌝ }
     ensures { λ r. ⌜ r ≤ 0x7f80_0000 ⌝ }
 {
-    let field: u64 = b % 0x8000_0000_0000_0000 / 0x10_0000_0000_0000;
-    let digits: u64 = 0x10_0000_0000_0000 + b % 0x10_0000_0000_0000;
-    if field < 873 {
+    let m: u64 = b % 0x8000_0000_0000_0000;
+    if m < 0x3690_0000_0000_0000 {
         return 0;
     }
-    if field < 897 {
-        return dropped(digits, 926 - field);
+    if m < 0x3810_0000_0000_0000 {
+        let digits: u64 = 0x10_0000_0000_0000 + m % 0x10_0000_0000_0000;
+        return dropped(digits, 926 - m / 0x10_0000_0000_0000);
     }
-    let n = (field - 897) * 0x80_0000 + dropped(digits, 29);
+    let n = dropped(m, 29) - 0x1_c000_0000;
     if n < 0x7f80_0000 { n } else { 0x7f80_0000 }
 }
 

@@ -1,14 +1,17 @@
 -- What the rules give over a ring is what document 01's rules give over the fan that it was taken from. For both kinds of number. Assumes nothing.
-use mathlib.Core.Path.{_≡_, refl, ap}
+use mathlib.Core.Path.{_≡_, refl, ap, ap₂, _∙_}
 use mathlib.Core.Logic.{_≢_}
 use Prim.Native.Nat.{ℕ, zero, suc, _+_, _*_, _≤_, _<_}
 use native.Mathlib.Omega.{arith}
 use mathlib.Core.List.{List, map}
 use mathlib.Core.Option.{none, some}
-use lib.ListN.{length, getD, length-map}
+use lib.ListN.{length, getD, take, length-map}
+use lib.Seq.{sets, length-sets}
 use lib.IntN.{ℤ}
 use lib.Ieee.{Float}
+use Rattle.lists.specs.Lists.{part}
 use Rattle.lists.proofs.Places.{getD-map}
+use Rattle.lists.proofs.Stores.{part-of}
 use Rattle.rules.specs.Mesh.{onward, backward, corner, links, Fan, inner, rim, endless, fan, ring, Mesh}
 use Rattle.rules.specs.Position.{Stage, ringRule, Numbers}
 use Rattle.rules.specs.Levels.{coord, three, blended, moved, edgeAt}
@@ -18,8 +21,10 @@ use Rattle.rules.proofs.Turns.{Turned, round, fringe, turned, fan-ends}
 use Rattle.rules.proofs.Sound.{Sound}
 use Rattle.rules.proofs.Levels.{Small}
 use Rattle.rules.proofs.Range.{AllNear}
-use Rattle.faces.specs.Rings.{isRim}
-use Rattle.faces.proofs.Held.{length-ring}
+use Rattle.faces.specs.Words.{linksIn, Holds}
+use Rattle.faces.specs.Rings.{isRim, ringOf}
+use Rattle.faces.specs.declared.Ring.{Ring}
+use Rattle.faces.proofs.Held.{length-ring, start-ring, start-ring-of}
 use Rattle.weights.specs.Lent.{byRing, onRim, within, There, AllThere, Readable, AllReadable}
 
 module _ (𝓝 : Numbers) (s : Stage) (fs : List ℕ) (xs : List (𝓝 .N)) (u : ℕ) where
@@ -86,6 +91,28 @@ module _ (n : ℕ) (m : Mesh) (p : Sound n m) (few : Small 16 m) (u : ℕ) (h : 
   moved-by 𝓝 s xs =
       three-by 𝓝 s (m .faces) xs u (byRing 𝓝 s xs u (isRim (fanAt m u)) (ringAt m u)) (blended 𝓝 s (m .faces) xs u (fanAt m u))
       (by-fan 𝓝 s (m .faces) xs u (fanAt m u) (fan-ends (m .verts) n (m .faces) (p .good) (getD (m .starts) u 0) (p .below u h)))
+
+-- ---- the same ring, as `one_ring` leaves it in lent numbers o that were l, of a mesh that stands in words w
+module _ (w : List ℕ) (at n : ℕ) (m : Mesh) (h : Holds w at m) (p : Sound n m) (few : Small 16 m) (u : ℕ) (k : u < m .verts)
+    (x : Ring) (e : x ≡ ringOf (part at (3 * n) w) (fan (linksIn w (at + 3 * n) (3 * n)) (getD w (at + 6 * n + u) 0)))
+    (l o : List ℕ) (long : 16 ≤ length l) (f : o ≡ sets l 0 (ring (part at (3 * n) w) (fan (linksIn w (at + 3 * n) (3 * n)) (getD w (at + 6 * n + u) 0)))) where
+  is : x ≡ ringOf (m .faces) (fanAt m u)
+  is = e ∙ start-ring-of w at n m h p u k
+
+  stored : o ≡ sets l 0 (ringAt m u)
+  stored = f ∙ ap (sets l 0) (start-ring w at n m h p u k)
+
+  counted : x .n ≡ length (ringAt m u)
+  counted = ap (λ (y : Ring). y .n) is
+
+  pub lent-rim : x .rim ≡ isRim (fanAt m u)
+  lent-rim = ap (λ (y : Ring). y .rim) is
+
+  pub lent-fits : x .n ≤ length o
+  lent-fits = omega (arith, counted, ring-few n m p few u k, ap length stored ∙ length-sets l 0 (ringAt m u))
+
+  pub lent-ring : take (x .n) o ≡ ringAt m u
+  lent-ring = ap₂ (λ (j : ℕ) (y : List ℕ). take j y) counted stored ∙ part-of (ringAt m u) l 0 (length (ringAt m u)) refl (omega (arith, ring-few n m p few u k))
 
 -- ---- the edge of side s
 module _ (𝓝 : Numbers) (fs : List ℕ) (xs : List (𝓝 .N)) (s : ℕ) where

@@ -6,18 +6,18 @@ use native.Mathlib.Omega.{arith}
 use lib.ListN.{length}
 use lib.Seq.{sets}
 use Rattle.lists.specs.Lists.{part}
-use Rattle.rules.specs.Mesh.{Fan, here, walk, passed, prevCorner, fan, ring}
+use Rattle.rules.specs.Mesh.{Fan, here, walk, passed, prevCorner, ring}
 use Rattle.faces.specs.Words.{linksIn}
 use Rattle.faces.specs.Rings.{rimmed, ringOf}
 use Rattle.faces.specs.declared.Ring.{Ring}
 use Rattle.faces.proofs.Trips.{first-passed}
-use Rattle.faces.proofs.Trails.{faces-in, filled, from-corner, last-below, IsInner, IsRim, inner-is, rim-is, endless-is, inner-ends, rim-ends}
+use Rattle.faces.proofs.Trails.{faces-in, filled, from-corner, last-below, IsInner, IsRim, inner-is, rim-is, long-is, inner-ends, rim-ends}
 use borrow.Author.Needs.{needs}
 use Rattle.faces.proofs.one_ring.Statement.{statement}
 use Rattle.faces.proofs.one_ring.Tie as tie
 
-turn-round-requires : tie.Need-turn-round-requires
-turn-round-requires c κs = search needs
+by-next-requires : tie.Need-by-next-requires
+by-next-requires c κs = search needs
 
 enum-told : tie.Need-enum-told
 enum-told c = search needs
@@ -28,14 +28,14 @@ inner-fan k =
     let a = k .before .before .before .before .before .args in
     let p = k .before .before .before .before .before .pre .0 .walkable in
     inner-is (linksIn (now (a .words)) (a .links) (3 * a .nf)) (a .nf) (a .s) (faces-in (now (a .words)) (a .links) (a .nf) (a .s) p)
-    (k .enum-told .given .0 .0) (sym (k .before .before .turn-round .ensures) ∙ k .enum-told .given .1)
+    (k .enum-told .given .0 .0) (sym (k .before .before .by-next .ensures) ∙ k .enum-told .given .1)
 
 rim-fan : (k : tie.After-end) → (let a = k .before .before .before .before .before .args in IsRim (linksIn (now (a .words)) (a .links) (3 * a .nf)) (a .nf) (a .s) (k .end .given .0 .1 .0))
 rim-fan k =
     let a = k .before .before .before .before .before .args in
     let p = k .before .before .before .before .before .pre .0 .walkable in
-    rim-is (linksIn (now (a .words)) (a .links) (3 * a .nf)) (a .nf) (a .s) (faces-in (now (a .words)) (a .links) (a .nf) (a .s) p) (filled (now (a .words)) (a .links) (a .nf) (a .s) p)
-    (k .end .given .0 .0) (k .end .given .0 .1 .0) (sym (k .before .before .turn-round .ensures) ∙ k .end .given .1)
+    rim-is (linksIn (now (a .words)) (a .links) (3 * a .nf)) (a .nf) (a .s) (faces-in (now (a .words)) (a .links) (a .nf) (a .s) p) (k .before .before .before .before .before .pre .0 .turns)
+    (k .end .given .0 .0) (k .end .given .0 .1 .0) (sym (k .before .before .by-next .ensures) ∙ k .end .given .1)
 
 inner-ring-requires : tie.Need-inner-ring-requires
 inner-ring-requires c κs =
@@ -101,14 +101,16 @@ returns-3 : tie.Need-returns-3
 returns-3 c =
     let a = c .before .before .before .before .before .args in
     let fs = part (a .corners) (3 * a .nf) (now (a .words)) in
-    let e = endless-is (fan (linksIn (now (a .words)) (a .links) (3 * a .nf)) (a .s)) (sym (c .before .before .turn-round .ensures) ∙ c .enum-told2 .given .1) in
+    let p = c .before .before .before .before .before .pre .0 .walkable in
+    let e =
+    long-is (linksIn (now (a .words)) (a .links) (3 * a .nf)) (a .nf) (a .s) (faces-in (now (a .words)) (a .links) (a .nf) (a .s) p) (sym (c .before .before .by-next .ensures) ∙ c .enum-told2 .given .1) in
     (sym (ap (ringOf fs) e), sym (ap (λ (f : Fan). sets (now (a .out)) 0 (ring fs f)) e))
 
 pub one-ring-spec : {M : Type 1} → statement M
 one-ring-spec =
     tie.close
     (tie.spec
-    turn-round-requires
+    by-next-requires
     enum-told
     inner-ring-requires
     enum-known-end
