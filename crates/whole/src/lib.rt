@@ -1,5 +1,5 @@
 ghost use mathlib.Core.Path.{_≡_};
-ghost use Prim.Native.Nat.{_*_, _≤_, _<_};
+ghost use Prim.Native.Nat.{_*_, _/_, _≤_, _<_};
 ghost use lib.ListN.{length, getD, set};
 ghost use lib.IntN.{pos};
 ghost use Rattle.whole.specs.Whole.{reach, inRange, Near, nearest, raise, lower};
@@ -27,12 +27,26 @@ pub fn lowered(x: u64) -> i32
     (x as i64 - REACH as i64) as i32
 }
 
+// n / d. The divisors of a vertex with six in its ring, as most have, are told apart: by a known number no division is made.
+fn quotient(n: u64, d: u64) -> u64
+    requires { ⌜ 0 < d ⌝ }
+    ensures { λ r. ⌜ r ≡ n / d ⌝ }
+{
+    if d == 24 {
+        n / 24
+    } else if d == 96 {
+        n / 96
+    } else {
+        n / d
+    }
+}
+
 // The one place that rounds: s is a sum of raised numbers, of weight d in all.
 pub fn rounded(s: u64, d: u64) -> u64
     requires { ⌜ (0 < d) × (d ≤ 1000) × (s ≤ d * (2 * reach)) ⌝ }
     ensures { λ r. ⌜ (r ≡ raise (nearest (lower d s) d)) × (r ≤ 2 * reach) ⌝ }
 {
-    (2 * s + d) / (2 * d)
+    quotient(2 * s + d, 2 * d)
 }
 
 // Signed numbers stand in lent slices only: read raised, and stored lowered.
