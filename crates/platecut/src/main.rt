@@ -4,6 +4,7 @@ ghost use Prim.Native.Nat.{_≤_};
 ghost use lib.ListN.{length};
 ghost use Rattle.listing.specs.Text.{Put};
 ghost use Rattle.platecut.specs.Output.{plateText, cutText};
+use libc::STDERR_FILENO;
 use libc::STDIN_FILENO;
 use libc::STDOUT_FILENO;
 use rules::Outcome;
@@ -52,5 +53,10 @@ fn main() {
     let n = io::read_full(STDIN_FILENO, &mut input);
     let mut text = [0u8; 68164];
     let k = cut(&input[..n], &mut text);
-    io::write_all(STDOUT_FILENO, &text[..k]);
+    if !io::write_all(STDOUT_FILENO, &text[..k]) {
+        io::write_all(
+            STDERR_FILENO,
+            b"platecut: the listing could not be written whole. Do not cast from it.\n",
+        );
+    }
 }
