@@ -8,14 +8,15 @@ use mathlib.Core.Option.{Option, none, some}
 use lib.ListN.{length, getD, length-map}
 use Rattle.lists.specs.Lists.{part}
 use Rattle.lists.proofs.Stores.{getD-part}
-use Rattle.rules.specs.Mesh.{corner, links, Fan, inner, rim, endless, fan, valence, ring, Mesh}
+use Rattle.rules.specs.Mesh.{onward, corner, links, Fan, inner, rim, endless, fan, valence, ring, Mesh}
 use Rattle.rules.proofs.Refine.{Good}
-use Rattle.rules.proofs.Faces.{link-below}
+use Rattle.rules.proofs.Sides.{on-below}
+use Rattle.rules.proofs.Faces.{link-below, link-twins}
 use Rattle.rules.proofs.Turns.{fan-ends}
 use Rattle.rules.proofs.Sound.{Sound}
 use Rattle.rules.proofs.Levels.{Small}
 use Rattle.faces.specs.Words.{linkOf, coded, linksIn, faceCount, Holds}
-use Rattle.faces.specs.Rings.{Walkable, Ringable, turnOf, valenceOf, ringOf}
+use Rattle.faces.specs.Rings.{Walkable, Mated, Ringable, turnOf, valenceOf, ringOf}
 use Rattle.faces.specs.declared.Turn.the-variants as turn
 use Rattle.faces.proofs.Links.{getD-linksIn}
 use Rattle.faces.proofs.Trails.{endless-is}
@@ -79,8 +80,17 @@ module _ (w : List ℕ) (at n : ℕ) (m : Mesh) (h : Holds w at m) (g : Good (m 
   pub turn-ends : (s : ℕ) → s < 3 * n → turnOf (fan (linksIn w (at + 3 * n) (3 * n)) s) ≢ turn.Endless
   turn-ends s k e = fan-ends (m .verts) n (m .faces) g s k (sym (fan-held s) ∙ endless-is (fan (linksIn w (at + 3 * n) (3 * n)) s) e)
 
+  mates : Mated w at (at + 3 * n) n
+  mates = record {
+    from = λ i t k e.
+        let l = sym (getD-linksIn w (at + 3 * n) (3 * n) (omega (arith, room-held)) i k ∙ e) in
+        let q = ap (λ (x : List (Option ℕ)). getD x i none) links-held in
+        let z : getD (links (m .faces)) i none ≡ some t = sym q ∙ sym l in
+        corner-word t (link-below (m .verts) n (m .faces) g i t k z) ∙ link-twins (m .verts) n (m .faces) g i t k z .from ∙ sym (corner-word (onward i) (on-below i n k));
+  }
+
   pub ringable : (s : ℕ) → s < 3 * n → valence (fan (links (m .faces)) s) ≤ 16 → Ringable w at (at + 3 * n) n s
-  ringable s k v = record { walkable = walkable s k; room = omega (arith, room-held); turns = λ e. fan-ends (m .verts) n (m .faces) g s k (sym (fan-held s) ∙ e); few = rw (fan-held s) v }
+  ringable s k v = record { walkable = walkable s k; room = omega (arith, room-held); mated = mates; turns = λ e. fan-ends (m .verts) n (m .faces) g s k (sym (fan-held s) ∙ e); few = rw (fan-held s) v }
 
   pub ring-held : (s : ℕ) → ring (part at (3 * n) w) (fan (linksIn w (at + 3 * n) (3 * n)) s) ≡ ring (m .faces) (fan (links (m .faces)) s)
   ring-held s = ap₂ ring faces-held (fan-held s)

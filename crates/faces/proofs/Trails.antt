@@ -109,11 +109,25 @@ module _ (next : ℕ → mesh.Step) (n s : ℕ) where
     pub then-off : stepOf (next x) ≡ step.Off → suc k ≡ length (trail next n (here s))
     then-off q = goes-off k (next x) (rw e (goes f k h)) q
 
+-- where it closes, nothing is off the rim
+module _ (next : ℕ → mesh.Step) (n s : ℕ) (f : stopOf (walk next n (here s)) ≡ closed) where
+  pub never-off : (k x : ℕ) → k < length (trail next n (here s)) → x ≡ getD (trail next n (here s)) k 0 → next x ≢ off
+  never-off k x h e q = go (decLt (suc k) (length (trail next n (here s))))
+    where
+      go : Dec (suc k < length (trail next n (here s))) → ⊥
+      go (yes l) = let a = sym (chain next n (here s) k l) ∙ ap next (sym e) ∙ q in let z : _≡_ {A = ℕ} 0 1 = cc in omega arith
+      go (no l) =
+          let r : length (trail next n (here s)) - 1 ≡ k = omega arith in
+          let b : lastOf 0 (trail next n (here s)) ≡ x = last-at 0 (trail next n (here s)) (omega arith) ∙ ap (λ (z : ℕ). getD (trail next n (here s)) z 0) r ∙ sym e in
+          let a = sym (rw (f, b) at (last-stop next n s 0)) ∙ q in
+          let z : _≡_ {A = ℕ} 0 1 = cc in
+          omega arith
+
 -- ---- the fan of a turn
 
 pub record IsInner (ls : List (Option ℕ)) (n s : ℕ) : Type 0 where
   pub is : fan ls s ≡ inner (trail (nextCorner ls s) n (here s))
-  pub stops : stopOf (walk (nextCorner ls s) n (here s)) ≢ long
+  pub closes : stopOf (walk (nextCorner ls s) n (here s)) ≡ closed
 
 pub record IsRim (ls : List (Option ℕ)) (n s e : ℕ) : Type 0 where
   pub is : fan ls s ≡ rim (trail (prevCorner ls e) n (here e))
@@ -141,7 +155,7 @@ module _ (ls : List (Option ℕ)) (n s : ℕ) (size : length ls / 3 ≡ n) where
   inner-is m q = go (stopOf (walk (nextCorner ls s) n (here s))) refl fan-as q
     where
       go : (st : Stop) → stopOf (walk (nextCorner ls s) n (here s)) ≡ st → fan ls s ≡ fanOf ls n (trail (nextCorner ls s) n (here s)) st → tripBy st (length (trail (nextCorner ls s) n (here s))) (lastOf 0 (trail (nextCorner ls s) n (here s))) ≡ trip.Closed m → IsInner ls n s
-      go closed e f y = record { is = f; stops = closed-long e }
+      go closed e f y = record { is = f; closes = e }
       go ended e f y = absurd (let z : _≡_ {A = ℕ} 0 1 = cc in omega arith)
       go long e f y = absurd (let z : _≡_ {A = ℕ} 0 1 = cc in omega arith)
 
@@ -172,7 +186,7 @@ module _ (ls : List (Option ℕ)) (n s : ℕ) (size : length ls / 3 ≡ n) where
 
 -- what the walk of a ring asks, where the valence is in bounds
 pub inner-ends : (ls : List (Option ℕ)) (n s m : ℕ) → IsInner ls n s → valence (fan ls s) ≤ m → Ends (nextCorner ls s) n s m
-inner-ends ls n s m i h = record { stops = i .stops; few = rw (i .is) at h }
+inner-ends ls n s m i h = record { stops = closed-long (i .closes); few = rw (i .is) at h }
 
 pub rim-ends : (ls : List (Option ℕ)) (n s e m : ℕ) → IsRim ls n s e → valence (fan ls s) ≤ suc m → Ends (prevCorner ls e) n e m
 rim-ends ls n s e m i h = record { stops = i .stops; few = le-of-suc-le-suc (rw (i .is) at h) }

@@ -1,13 +1,15 @@
 -- What the walks round a vertex answer, of the walks, fans and rings of crate `rules`. Assumes nothing.
 use Prim.Native.Nat.{ℕ, suc, _+_, _*_, _≤_, _<_}
+use mathlib.Core.Path.{_≡_}
 use mathlib.Core.Logic.{_≢_}
+use mathlib.Core.Option.{some}
 use mathlib.Core.Bool.{Bool, true, false}
 use mathlib.Core.List.{List, _∷_, map}
 use lib.ListN.{length, getD}
 use Rattle.lists.specs.Lists.{lastOf}
 use Rattle.rules.specs.Mesh as mesh
 use Rattle.rules.specs.Mesh.{onward, backward, corner, Walk, walk, passed, stopOf, Stop, Fan, inner, rim, endless, fan, valence, ring}
-use Rattle.faces.specs.Words.{linksIn}
+use Rattle.faces.specs.Words.{linkOf, linksIn}
 use Rattle.faces.specs.declared.VertNo.{VertNo}
 use Rattle.faces.specs.declared.Step.{Step}
 use Rattle.faces.specs.declared.Step.the-variants as step
@@ -23,10 +25,15 @@ pub record Walkable (w : List ℕ) (at n s : ℕ) : Type 0 where
   pub start : s < 3 * n
   pub linked : (i : ℕ) → i < 3 * n → getD w (at + i) 0 ≤ 3 * n
 
+-- a side across starts where the side ends
+pub record Mated (w : List ℕ) (corners links n : ℕ) : Type 0 where
+  pub from : (i t : ℕ) → i < 3 * n → linkOf (getD w (links + i) 0) ≡ some t → getD w (corners + t) 0 ≡ getD w (corners + onward i) 0
+
 -- and what a ring asks: the corners of n faces stand from `corners` on, the walks end, and the ring fits
 pub record Ringable (w : List ℕ) (corners links n s : ℕ) : Type 0 where
   pub walkable : Walkable w links n s
   pub room : corners + 3 * n ≤ length w
+  pub mated : Mated w corners links n
   pub turns : fan (linksIn w links (3 * n)) s ≢ endless
   pub few : valence (fan (linksIn w links (3 * n)) s) ≤ 16
 

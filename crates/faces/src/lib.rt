@@ -10,7 +10,7 @@ ghost use Rattle.faces.specs.declared.Across.the-variants as across;
 ghost use Rattle.faces.specs.declared.Vert.the-variants as vert;
 ghost use Rattle.faces.specs.Faces.{at, ofLink, faceLink, faceAt, vnumOf, nextFaceOf, prevFaceOf, nextVertOf, prevVertOf, unless, otherVertOf};
 ghost use Rattle.faces.specs.Words.{linkOf, linksIn};
-ghost use Rattle.faces.specs.Rings.{Walkable, Ringable, Ends, stepOf, tripOf, rimTurn, turnOf, valenceOf, inners, rimmed, ringOf};
+ghost use Rattle.faces.specs.Rings.{Walkable, Mated, Ringable, Ends, stepOf, tripOf, rimTurn, turnOf, valenceOf, inners, rimmed, ringOf};
 
 // A vertex number and a face number are distinct kinds.
 pub struct VertNo(pub u32);
@@ -361,7 +361,8 @@ pub fn valence(t: Turn) -> usize
     }
 }
 
-// The ring of an inner vertex: `next_vert` of each face, by `next_face` from corner s until it is back. How many there are.
+// The ring of an inner vertex: `next_vert` of each face, by `next_face` from corner s until it is back. How many there are. `next_vert` is where the side across
+// starts, and the link word leads there.
 fn inner_ring(
     words: &[u32],
     corners: usize,
@@ -370,14 +371,16 @@ fn inner_ring(
     s: usize,
     out: &mut [u32],
 ) -> usize
-    requires { ⌜ Walkable (now words) links nf s × (corners + 3 * nf ≤ length (now words)) × Ends (mesh.nextCorner (linksIn (now words) links (3 * nf)) s) nf s (length (now out)) ⌝ }
+    requires walk { ⌜ Walkable (now words) links nf s × (corners + 3 * nf ≤ length (now words)) × Ends (mesh.nextCorner (linksIn (now words) links (3 * nf)) s) nf s (length (now out)) ⌝ }
+    requires round { ⌜ (mesh.stopOf (mesh.walk (mesh.nextCorner (linksIn (now words) links (3 * nf)) s) nf (mesh.here s)) ≡ mesh.closed) × Mated (now words) corners links nf ⌝ }
     ensures count { λ r. ⌜ r ≡ length (inners (part corners (3 * nf) (now (words .entry))) (mesh.passed (mesh.walk (mesh.nextCorner (linksIn (now (words .entry)) links (3 * nf)) s) nf (mesh.here s)))) ⌝ }
     ensures ring { λ r. ⌜ now (out .exit) ≡ sets (now (out .entry)) 0 (inners (part corners (3 * nf) (now (words .entry))) (mesh.passed (mesh.walk (mesh.nextCorner (linksIn (now (words .entry)) links (3 * nf)) s) nf (mesh.here s)))) ⌝ }
 {
     let mut at = s;
     let mut n: usize = 0;
     loop {
-        out[n] = words[corners + onward(at)];
+        let w = words[links + at] as usize;
+        out[n] = words[corners + (w - 1)];
         n = n + 1;
         match next_corner(words, links, s, at) {
             Step::Home => {

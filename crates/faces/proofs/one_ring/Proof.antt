@@ -42,7 +42,10 @@ inner-ring-requires c κs =
     let k = c .before in
     let a = k .before .before .before .before .before .args in
     let p = k .before .before .before .before .before .pre in
-    (p .0 .walkable, p .0 .room, inner-ends (linksIn (now (a .words)) (a .links) (3 * a .nf)) (a .nf) (a .s) (length (now (a .out))) (inner-fan k) (omega (arith, p .0 .few)))
+    let i = inner-fan k in (
+      (p .0 .walkable, p .0 .room, inner-ends (linksIn (now (a .words)) (a .links) (3 * a .nf)) (a .nf) (a .s) (length (now (a .out))) i (omega (arith, p .0 .few))),
+      (i .closes, p .0 .mated),
+    )
 
 enum-known-end : tie.Need-enum-known-end
 enum-known-end c = search needs
