@@ -6,24 +6,6 @@ ghost use Rattle.rules.specs.Refusals.{refusal};
 ghost use Rattle.rules.specs.Answers.{answer, counted, unless};
 use rules::Outcome;
 
-fn tell(o: Outcome, told: &mut [u32; 5])
-    ensures { λ r. ⌜ now (told .exit) ≡ answer o ⌝ }
-{
-    match o {
-        Outcome::Success(c) => {
-            let v = c.vertices;
-            let f = c.faces;
-            let r = c.rims;
-            *told = [0, 0, v, f, r];
-        }
-        Outcome::Refused(r) => {
-            let n = r.number;
-            let p = r.place;
-            *told = [n, p, 0, 0, 0];
-        }
-    }
-}
-
 #[no_mangle]
 pub extern "C" fn cage_judge_whole(
     levels: u32,
@@ -33,7 +15,7 @@ pub extern "C" fn cage_judge_whole(
 )
     ensures { λ r. ⌜ now (told .exit) ≡ answer (unless (refusal whole levels (now (indices .entry)) (now (coords .entry))) (Outcome.Success (counted (last whole levels (now (indices .entry)) (now (coords .entry)) .mesh)))) ⌝ }
 {
-    tell(super::judge_whole(levels, indices, coords), told);
+    rules::tell(super::judge_whole(levels, indices, coords), told);
 }
 
 #[no_mangle]
@@ -45,5 +27,5 @@ pub extern "C" fn cage_judge_single(
 )
     ensures { λ r. ⌜ now (told .exit) ≡ answer (unless (refusal single levels (now (indices .entry)) (now (coords .entry))) (Outcome.Success (counted (last single levels (now (indices .entry)) (now (coords .entry)) .mesh)))) ⌝ }
 {
-    tell(super::judge_single(levels, indices, coords), told);
+    rules::tell(super::judge_single(levels, indices, coords), told);
 }

@@ -2,13 +2,9 @@
 // is touched before the outcome is known.
 ghost use mathlib.Core.Path.{_≡_};
 ghost use Prim.Native.Nat.{_+_, _*_};
-ghost use lib.IntN.{pos};
-ghost use lib.ListN.{length};
-ghost use Rattle.rules.specs.Position.{whole, single, f32};
-ghost use Rattle.rules.specs.Levels.{last};
-ghost use Rattle.rules.specs.Levels.{positions as positionsOf};
-ghost use Rattle.rules.specs.Tangents.{normals as normalsOf};
-ghost use Rattle.rules.specs.Answers.{outcome, wholeRooms, singleRooms, written, zeroed, workWords, workCoords};
+ghost use Rattle.rules.specs.Position.{whole, single};
+ghost use Rattle.rules.specs.Answers.{outcome, wholeRooms, singleRooms};
+ghost use Rattle.rules.specs.Calls.{given, lent, buffers, WholeCall, SingleCall};
 use rules::Counts;
 use rules::Outcome;
 
@@ -43,11 +39,7 @@ pub fn loop_subdivide_whole(
     words: &mut [u32],
     work: &mut [i32],
 ) -> Outcome
-    ensures answer { λ r. ⌜ r ≡ outcome whole (wholeRooms (length (now (positions .entry))) (length (now (out .entry))) (length (now (words .entry))) (length (now (work .entry)))) levels (now (indices .entry)) (now (coords .entry)) ⌝ }
-    ensures positions { λ r. ⌜ now (positions .exit) ≡ written r (positionsOf whole (last whole levels (now (indices .entry)) (now (coords .entry)))) (now (positions .entry)) ⌝ }
-    ensures out { λ r. ⌜ now (out .exit) ≡ written r (last whole levels (now (indices .entry)) (now (coords .entry)) .mesh .faces) (now (out .entry)) ⌝ }
-    ensures words { λ r. ⌜ now (words .exit) ≡ zeroed r 0 workWords (now (words .entry)) ⌝ }
-    ensures work { λ r. ⌜ now (work .exit) ≡ zeroed r (pos 0) workCoords (now (work .entry)) ⌝ }
+    ensures { λ r. ⌜ WholeCall levels (given indices) (given coords) (buffers positions out words work) r ⌝ }
 {
     let o = judge_whole(
         levels,
@@ -98,12 +90,7 @@ pub fn loop_subdivide(
     words: &mut [u32],
     work: &mut [f32],
 ) -> Outcome
-    ensures answer { λ r. ⌜ r ≡ outcome single (singleRooms (length (now (positions .entry))) (length (now (normals .entry))) (length (now (out .entry))) (length (now (words .entry))) (length (now (work .entry)))) levels (now (indices .entry)) (now (coords .entry)) ⌝ }
-    ensures positions { λ r. ⌜ now (positions .exit) ≡ written r (positionsOf single (last single levels (now (indices .entry)) (now (coords .entry)))) (now (positions .entry)) ⌝ }
-    ensures normals { λ r. ⌜ now (normals .exit) ≡ written r (normalsOf (last single levels (now (indices .entry)) (now (coords .entry)))) (now (normals .entry)) ⌝ }
-    ensures out { λ r. ⌜ now (out .exit) ≡ written r (last single levels (now (indices .entry)) (now (coords .entry)) .mesh .faces) (now (out .entry)) ⌝ }
-    ensures words { λ r. ⌜ now (words .exit) ≡ zeroed r 0 workWords (now (words .entry)) ⌝ }
-    ensures work { λ r. ⌜ now (work .exit) ≡ zeroed r (f32 0) workCoords (now (work .entry)) ⌝ }
+    ensures { λ r. ⌜ SingleCall levels (given indices) (given coords) (buffers positions out words work) (lent normals) r ⌝ }
 {
     let o = judge_single(
         levels,

@@ -5,7 +5,7 @@ use Rattle.rules.specs.Position.{whole}
 use Rattle.rules.specs.Levels.{positions}
 use Rattle.rules.specs.Sheets.{cutRooms, sheetOutcome, cutOutcome}
 use Rattle.rules.specs.declared.Outcome.{Outcome}
-use Rattle.sheet.specs.Calls.{sheetLast}
+use Rattle.rules.specs.Calls.{sheetLast}
 use Rattle.listing.specs.Text.{textOf}
 
 -- the text of an outcome, over the lists of the sheet's last level

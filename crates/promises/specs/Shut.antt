@@ -17,11 +17,15 @@ use Rattle.rules.specs.Cases.{T-faces, T-points, H-faces, H-points, anywhere}
 use Rattle.rules.specs.declared.Refusal.{Refusal}
 use Rattle.rules.specs.declared.Outcome.{Outcome}
 use Rattle.rules.specs.declared.Outcome.the-variants.{Success, Refused}
-use Rattle.promises.specs.Calls.{Buffers, WholeCall}
+use Rattle.rules.specs.Calls.{Buffers, WholeCall}
 
 -- room for T at two levels and for H at none, every entry 9
 abbrev pub blank : Buffers ℤ
 blank = record { positions = replicate 45 (pos 9); indices = replicate 48 9; words = replicate 376 9; work = replicate 90 (pos 9) }
+
+-- a call that is lent these, answers r and leaves them so
+abbrev Leaves : ℕ → List ℕ → List ℤ → Outcome → Buffers ℤ → Type 0
+Leaves l fs xs r left = WholeCall l fs xs (record { old = blank; new = left }) r
 
 abbrev pub counts : ℕ → ℕ → ℕ → Outcome
 counts v f s = Success (record { vertices = v; faces = f; rims = s })
@@ -101,17 +105,17 @@ T-2-second = refl
 
 -- ---- "refusing all cages": T is not refused
 
-pub refusing-all : (r : Refusal) (left : Buffers ℤ) → WholeCall 0 T-faces T-points blank (Refused r) left → ⊥
+pub refusing-all : (r : Refusal) (left : Buffers ℤ) → Leaves 0 T-faces T-points (Refused r) left → ⊥
 refusing-all r left c = let e : Refused r ≡ counts 3 1 3 = c .answer ∙ T-0 in omega (arith, ap verticesOf e)
 
 -- ---- "one fixed plate": not one answer for T and H, nor one list of positions for T and for three vertices at one point
 
-pub one-fixed-answer : (r : Outcome) (left : Buffers ℤ) → WholeCall 0 T-faces T-points blank r left → WholeCall 0 H-faces H-points blank r left → ⊥
+pub one-fixed-answer : (r : Outcome) (left : Buffers ℤ) → Leaves 0 T-faces T-points r left → Leaves 0 H-faces H-points r left → ⊥
 one-fixed-answer r left c d =
     let e : counts 3 1 3 ≡ counts 4 4 0 = sym (c .answer ∙ T-0) ∙ d .answer ∙ H-0 in
     omega (arith, ap verticesOf e)
 
-pub one-fixed-plate : (r q : Outcome) (left : Buffers ℤ) (other : Buffers ℤ) → WholeCall 0 T-faces T-points blank r left → WholeCall 0 T-faces (anywhere 3) blank q other
+pub one-fixed-plate : (r q : Outcome) (left : Buffers ℤ) (other : Buffers ℤ) → Leaves 0 T-faces T-points r left → Leaves 0 T-faces (anywhere 3) q other
     → left .positions ≢ other .positions
 one-fixed-plate r q left other c d e =
     let a : firstOf (left .positions) ≡ 2 = ap firstOf (c .positions) ∙ ap (λ (o : Outcome). firstOf (leftAt o 0 T-faces T-points)) (c .answer ∙ T-0) ∙ T-0-first in
@@ -120,7 +124,7 @@ one-fixed-plate r q left other c d e =
 
 -- ---- "the control points handed back"
 
-pub control-points-back : (r : Outcome) (left : Buffers ℤ) → WholeCall 0 T-faces T-points blank r left → take 9 (left .positions) ≢ T-points
+pub control-points-back : (r : Outcome) (left : Buffers ℤ) → Leaves 0 T-faces T-points r left → take 9 (left .positions) ≢ T-points
 control-points-back r left c e =
     let a : firstOf (left .positions) ≡ 2 = ap firstOf (c .positions) ∙ ap (λ (o : Outcome). firstOf (leftAt o 0 T-faces T-points)) (c .answer ∙ T-0) ∙ T-0-first in
     let b : firstOf (take 9 (left .positions)) ≡ firstOf (left .positions) = ap natAbs (getD-take 9 (left .positions) 0 (pos 0) (omega arith)) in
@@ -134,7 +138,7 @@ pub record Touched (left : Buffers ℤ) : Type 0 where
   pub words : left .words ≢ blank .words
   pub work : left .work ≢ blank .work
 
-pub touching-none : (r : Outcome) (left : Buffers ℤ) → WholeCall 0 T-faces T-points blank r left → Touched left
+pub touching-none : (r : Outcome) (left : Buffers ℤ) → Leaves 0 T-faces T-points r left → Touched left
 touching-none r left c =
     let q = c .answer ∙ T-0 in
     record {
@@ -159,7 +163,7 @@ pub record Further (r q : Outcome) (left later : Buffers ℤ) : Type 0 where
   pub indices : left .indices ≢ later .indices
   pub positions : left .positions ≢ later .positions
 
-pub refining-once : (r q : Outcome) (left later : Buffers ℤ) → WholeCall 1 T-faces T-points blank r left → WholeCall 2 T-faces T-points blank q later → Further r q left later
+pub refining-once : (r q : Outcome) (left later : Buffers ℤ) → Leaves 1 T-faces T-points r left → Leaves 2 T-faces T-points q later → Further r q left later
 refining-once r q left later c d =
     let p = c .answer ∙ T-1 in
     let s = d .answer ∙ T-2 in
@@ -177,5 +181,5 @@ refining-once r q left later c d =
 
 -- ---- "invented vertex or rim counts": T at level 1 has 6 vertices, 4 faces and 6 rim sides, and no other answer passes
 
-pub invented-counts : (r : Outcome) (left : Buffers ℤ) → WholeCall 1 T-faces T-points blank r left → answer r ≡ 0 ∷ 0 ∷ 6 ∷ 4 ∷ 6 ∷ []
+pub invented-counts : (r : Outcome) (left : Buffers ℤ) → Leaves 1 T-faces T-points r left → answer r ≡ 0 ∷ 0 ∷ 6 ∷ 4 ∷ 6 ∷ []
 invented-counts r left c = ap {B = List ℕ} (λ o. answer o) (c .answer ∙ T-1)

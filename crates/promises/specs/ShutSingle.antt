@@ -20,7 +20,7 @@ use Rattle.rules.specs.Cases.{T-faces, T-points, H-faces, H-points}
 use Rattle.rules.specs.declared.Refusal.{Refusal}
 use Rattle.rules.specs.declared.Outcome.{Outcome}
 use Rattle.rules.specs.declared.Outcome.the-variants.{Refused}
-use Rattle.promises.specs.Calls.{Buffers, SingleCall}
+use Rattle.rules.specs.Calls.{Buffers, SingleCall}
 use Rattle.promises.specs.Shut.{counts}
 
 abbrev pub floats : List ℤ → List Float
@@ -32,6 +32,10 @@ blanks = record { positions = replicate 45 (f32 9); indices = replicate 48 9; wo
 
 abbrev pub noNormals : List Float
 noNormals = replicate 45 (f32 9)
+
+-- a call that is lent these, answers r and leaves them so
+abbrev Leaves : ℕ → List ℕ → List Float → Outcome → Buffers Float → List Float → Type 0
+Leaves l fs xs r left new = SingleCall l fs xs (record { old = blanks; new = left }) (record { old = noNormals; new = new }) r
 
 abbrev Answers : ℕ → List ℕ → List ℤ → Outcome → Type 0
 Answers l fs xs o = outcome single (singleRooms 45 45 48 376 90) l fs (floats xs) ≡ o
@@ -104,20 +108,20 @@ T-2-second = refl
 
 -- ---- "refusing all cages"
 
-pub refusing-all : (r : Refusal) (left : Buffers Float) (new : List Float) → SingleCall 0 T-faces (floats T-points) blanks noNormals (Refused r) left new → ⊥
+pub refusing-all : (r : Refusal) (left : Buffers Float) (new : List Float) → Leaves 0 T-faces (floats T-points) (Refused r) left new → ⊥
 refusing-all r left new c = let e : Refused r ≡ counts 3 1 3 = c .call .answer ∙ T-0 in omega (arith, ap verticesOf e)
 
 -- ---- "one fixed plate"
 
-pub one-fixed-answer : (r : Outcome) (left : Buffers Float) (new : List Float) → SingleCall 0 T-faces (floats T-points) blanks noNormals r left new
-    → SingleCall 0 H-faces (floats H-points) blanks noNormals r left new → ⊥
+pub one-fixed-answer : (r : Outcome) (left : Buffers Float) (new : List Float) → Leaves 0 T-faces (floats T-points) r left new
+    → Leaves 0 H-faces (floats H-points) r left new → ⊥
 one-fixed-answer r left new c d =
     let e : counts 3 1 3 ≡ counts 4 4 0 = sym (c .call .answer ∙ T-0) ∙ d .call .answer ∙ H-0 in
     omega (arith, ap verticesOf e)
 
 -- ---- T at level 0: "the control points handed back", "touching no buffer"
 
-module _ (r : Outcome) (left : Buffers Float) (new : List Float) (c : SingleCall 0 T-faces (floats T-points) blanks noNormals r left new) where
+module _ (r : Outcome) (left : Buffers Float) (new : List Float) (c : Leaves 0 T-faces (floats T-points) r left new) where
   is : r ≡ counts 3 1 3
   is = c .call .answer ∙ T-0
 
@@ -157,8 +161,8 @@ module _ (r : Outcome) (left : Buffers Float) (new : List Float) (c : SingleCall
 
 -- ---- "refining once and repeating that mesh for later levels", "invented vertex or rim counts"
 
-pub refining-once : (r q : Outcome) (left later : Buffers Float) (new newer : List Float) → SingleCall 1 T-faces (floats T-points) blanks noNormals r left new
-    → SingleCall 2 T-faces (floats T-points) blanks noNormals q later newer → r ≢ q × left .indices ≢ later .indices
+pub refining-once : (r q : Outcome) (left later : Buffers Float) (new newer : List Float) → Leaves 1 T-faces (floats T-points) r left new
+    → Leaves 2 T-faces (floats T-points) q later newer → r ≢ q × left .indices ≢ later .indices
 refining-once r q left later new newer c d =
     let p = c .call .answer ∙ T-1 in
     let s = d .call .answer ∙ T-2 in (
@@ -169,5 +173,5 @@ refining-once r q left later new newer c d =
           omega (arith, ap secondOf e)),
     )
 
-pub invented-counts : (r : Outcome) (left : Buffers Float) (new : List Float) → SingleCall 1 T-faces (floats T-points) blanks noNormals r left new → answer r ≡ 0 ∷ 0 ∷ 6 ∷ 4 ∷ 6 ∷ []
+pub invented-counts : (r : Outcome) (left : Buffers Float) (new : List Float) → Leaves 1 T-faces (floats T-points) r left new → answer r ≡ 0 ∷ 0 ∷ 6 ∷ 4 ∷ 6 ∷ []
 invented-counts r left new c = ap {B = List ℕ} (λ o. answer o) (c .call .answer ∙ T-1)

@@ -5,5 +5,6 @@ pub mod Tangents
 pub mod Refusals
 pub mod Answers
 pub mod Sheets
+pub mod Calls
 pub mod Cases
 pub mod Orders

@@ -26,7 +26,7 @@ use Rattle.rules.proofs.Levels.{sound-level, mesh-levels}
 use Rattle.rules.proofs.Spokes.{length-positions}
 use Rattle.loopsubdiv.proofs.Outcomes.{done as answered}
 use Rattle.sheet.specs.Reading.{sheetOf}
-use Rattle.sheet.specs.Calls.{Lent, sheetLast, Subdivided}
+use Rattle.rules.specs.Calls.{sheetLast}
 use Rattle.sheet.specs.declared.Sheet.the-variants as sheet
 use Rattle.sheet.proofs.Laws.{good-length}
 
@@ -85,16 +85,6 @@ module _ (rooms : Counts → List Room) (b : List ℕ) (good : badSheet b ≡ fa
       let i = one-each (λ k. wordAt (faceBlock b) (4 * k)) (3 * sheetFaces b) in
       let c = one-each (λ k. signed (wordAt (vertexBlock b) (4 * k))) (3 * sheetVerts b) in
       read-outcome ∙ rw (i, c, e)
-
--- ---- one outcome: two that are allowed of the same sheet and buffers are the same
-
-pub one-outcome : (b : List ℕ) (ps qs : Lent ℤ) (is js ws xs : Lent ℕ) (cs ds : Lent ℤ) (r s : Outcome)
-    → ps .old ≡ qs .old → is .old ≡ js .old → ws .old ≡ xs .old → cs .old ≡ ds .old
-    → Subdivided b ps is ws cs r → Subdivided b qs js xs ds s
-    → (r ≡ s) × ((ps .new ≡ qs .new) × ((is .new ≡ js .new) × ((ws .new ≡ xs .new) × (cs .new ≡ ds .new))))
-one-outcome b ps qs is js ws xs cs ds r s p i w c f g =
-    let e : r ≡ s = f .answer ∙ rw (p, i, w, c) (sym (g .answer)) in
-    (e, (f .positions ∙ rw (e, p) (sym (g .positions)), (f .indices ∙ rw (e, i) (sym (g .indices)), (f .words ∙ rw (e, w) (sym (g .words)), f .work ∙ rw (e, c) (sym (g .work))))))
 
 -- ---- what a success says: nothing refused, the counts are those of the last level, and its lists are that long
 

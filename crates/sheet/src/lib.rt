@@ -7,7 +7,7 @@ ghost use lib.Seq.{sets};
 ghost use Rattle.rules.specs.Sheets.{wordAt, wordsOf, coordsOf, vertexBlock, faceBlock};
 ghost use Rattle.rules.specs.Sheets.{signed as signedOf};
 ghost use Rattle.sheet.specs.Reading.{sheetOf, vertexBytes, faceBytes};
-ghost use Rattle.sheet.specs.Calls.{Subdivided, lent};
+ghost use Rattle.rules.specs.Calls.{given, buffers, SheetCall};
 use cage::Check;
 use rules::Outcome;
 use rules::Refusal;
@@ -153,7 +153,7 @@ fn subdivide_lists(
     work: &mut [i32],
 ) -> Outcome
     requires { ⌜ (vertices ≤ 4096) × ((faces ≤ 4096) × (sheetOf (now bytes) ≡ Sheet.Is vertices faces levels)) ⌝ }
-    ensures { λ r. ⌜ Subdivided (now (bytes .entry)) (lent (now (positions .entry)) (now (positions .exit))) (lent (now (out .entry)) (now (out .exit))) (lent (now (words .entry)) (now (words .exit))) (lent (now (work .entry)) (now (work .exit))) r ⌝ }
+    ensures { λ r. ⌜ SheetCall (given bytes) (buffers positions out words work) r ⌝ }
 {
     let nc = 3 * vertices;
     let mut coords = [0i32; 12288];
@@ -180,7 +180,7 @@ pub fn subdivide_sheet(
     words: &mut [u32],
     work: &mut [i32],
 ) -> Outcome
-    ensures { λ r. ⌜ Subdivided (now (bytes .entry)) (lent (now (positions .entry)) (now (positions .exit))) (lent (now (out .entry)) (now (out .exit))) (lent (now (words .entry)) (now (words .exit))) (lent (now (work .entry)) (now (work .exit))) r ⌝ }
+    ensures { λ r. ⌜ SheetCall (given bytes) (buffers positions out words work) r ⌝ }
 {
     match read_sheet(bytes) {
         Sheet::Refused => Outcome::Refused(Refusal {

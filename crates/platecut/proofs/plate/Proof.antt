@@ -8,7 +8,7 @@ use Rattle.rules.specs.Position.{whole}
 use Rattle.rules.specs.Levels.{positions}
 use Rattle.rules.specs.Sheets.{cutRooms, sheetOutcome}
 use Rattle.rules.specs.declared.Outcome.the-variants.{Success, Refused}
-use Rattle.sheet.specs.Calls.{sheetLast}
+use Rattle.rules.specs.Calls.{sheetLast}
 use Rattle.sheet.proofs.Calls.{Done, done}
 use Rattle.platecut.specs.Output.{textFor}
 use Rattle.platecut.proofs.Laws.{within}

@@ -103,11 +103,11 @@ returns c =
     let k = known s in
     let e = rw (indices-are w, coords-are (w .before .before .before .before), ← (k .levels)) at (d .loop-subdivide-whole .ensures) in
     record {
-      answer = rw (read-outcome rooms (now (a .bytes)) (k .good)) (e .0);
-      positions = e .1 .0;
-      indices = e .1 .1 .0;
-      words = e .1 .1 .1 .0;
-      work = e .1 .1 .1 .1;
+      answer = rw (read-outcome rooms (now (a .bytes)) (k .good)) (e .answer);
+      positions = e .positions;
+      indices = e .indices;
+      words = e .words;
+      work = e .work;
     }
 
 pub subdivide-lists-spec : {M : Type 1} → statement M

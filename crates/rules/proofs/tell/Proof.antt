@@ -1,6 +1,6 @@
 use borrow.Author.Needs.{needs}
-use Rattle.cage.proofs.boundary.tell.Statement.{statement}
-use Rattle.cage.proofs.boundary.tell.Tie as tie
+use Rattle.rules.proofs.tell.Statement.{statement}
+use Rattle.rules.proofs.tell.Tie as tie
 
 enum-known-o : tie.Need-enum-known-o
 enum-known-o c = search needs
