@@ -10,6 +10,7 @@ import damage
 import reference as ref
 
 ROOT = Path(__file__).resolve().parent.parent
+X86_64 = ROOT / "bin" / "x86-64"
 SHEET = "sheet"
 KINDS = (ref.WHOLE, ref.F32)
 EXACT = (0, 0, 0, 0, 0)
@@ -121,7 +122,7 @@ def fresh(dice):
 def driver():
     program = ROOT / "target" / "engine"
     subprocess.run(["rt", "staticlib", "plates"], cwd=ROOT, check=True, stdout=subprocess.DEVNULL)
-    subprocess.run(["gcc", "-O2", "-Wall", "-Wextra", "-Werror", "-o", program, "tests/engine.c", "target/staticlib/libplates.a"], cwd=ROOT, check=True)
+    subprocess.run([X86_64, "cc", "-O2", "-Wall", "-Wextra", "-Werror", "-o", program, "tests/engine.c", "target/staticlib/libplates.a"], cwd=ROOT, check=True)
     return program
 
 
@@ -134,7 +135,7 @@ def packed(c):
 
 def run(program, cases):
     """What is told of each case, and how many bytes are left over."""
-    words = memoryview(subprocess.run([program], input=b"".join(map(packed, cases)), stdout=subprocess.PIPE, check=True).stdout)
+    words = memoryview(subprocess.run([X86_64, "run", program], input=b"".join(map(packed, cases)), stdout=subprocess.PIPE, check=True).stdout)
     at = 0
 
     def take(n, kind="I"):
