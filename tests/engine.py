@@ -119,10 +119,17 @@ def fresh(dice):
 
 # ---- what is answered
 
+def library():
+    """The static library, which is proved and built anew where a file of a crate is newer."""
+    built = ROOT / "target" / "staticlib" / "libplates.a"
+    if not built.exists() or any(p.stat().st_mtime > built.stat().st_mtime for p in [ROOT / "crates.txt", *(ROOT / "crates").rglob("*")]):
+        subprocess.run(["rt", "staticlib", "plates"], cwd=ROOT, check=True, stdout=subprocess.DEVNULL)
+    return built
+
+
 def driver():
     program = ROOT / "target" / "engine"
-    subprocess.run(["rt", "staticlib", "plates"], cwd=ROOT, check=True, stdout=subprocess.DEVNULL)
-    subprocess.run([X86_64, "cc", "-O2", "-Wall", "-Wextra", "-Werror", "-o", program, "tests/engine.c", "target/staticlib/libplates.a"], cwd=ROOT, check=True)
+    subprocess.run([X86_64, "cc", "-O2", "-Wall", "-Wextra", "-Werror", "-o", program, "tests/engine.c", library()], cwd=ROOT, check=True)
     return program
 
 

@@ -2,13 +2,16 @@
 
    A cage is `levels` (0 to 7), `indices`, three corner numbers to a face, and `coords`, three coordinates to a vertex. Lengths count entries, not bytes, and may be
    anything: a cage or a buffer that will not do is refused. The buffers that are written (positions, normals, out, words, work, told) must not overlap each other or
-   the cage. A pointer must not be NULL, even at length 0.
+   the cage. A pointer may be NULL where its length is 0, as an empty vector's is; `told` may not.
 
    With F faces and V vertices at the last level, positions and normals need 3V entries, out 3F, words 16F+8V, work 6V. After success each has its result in front,
-   the needed part of words and work is zero, and entries past the needed length are unchanged. A refusal writes nothing but `told`.
+   the needed part of words and work is zero, and entries past the needed length are unchanged. A refusal writes nothing but `told`. One level makes 4F faces and V+E
+   vertices, E being the edges; the lengths PLATES_ROOM_.. do for every cage that is accepted.
 
    told[0] is 0 and told[2], told[3], told[4] are the vertices, faces and rim sides of the last level; or told[0] is a refusal's number, told[1] its place
-   (docs/HANDBOOK.md), and the rest is 0. */
+   (docs/HANDBOOK.md), and the rest is 0.
+
+   Any number of threads may call at once, each with buffers of its own; a cage may be shared. A call takes less than PLATES_STACK bytes of its thread's stack. */
 #ifndef PLATES_H
 #define PLATES_H
 
@@ -18,6 +21,42 @@
 #ifdef __cplusplus
 extern "C" {
 #endif
+
+/* Counts up when something in this file changes, or what a call answers. */
+#define PLATES_VERSION 1
+
+/* The stack that a call may take, in bytes: give a thread as much, and what its own functions take besides. Some systems give a thread no more than 128 KB. */
+#define PLATES_STACK 262144
+
+/* The most faces and vertices of a control cage, and of a level. */
+#define PLATES_MOST_IN_CAGE 4096
+#define PLATES_MOST 32768
+
+/* Room that always does, in entries: for 32,768 faces and vertices. */
+#define PLATES_ROOM_POSITIONS (3 * PLATES_MOST) /* 98,304; as many normals */
+#define PLATES_ROOM_OUT (3 * PLATES_MOST)       /* 98,304 */
+#define PLATES_ROOM_WORDS (24 * PLATES_MOST)    /* 786,432, as 16F+8V */
+#define PLATES_ROOM_WORK (6 * PLATES_MOST)      /* 196,608 */
+
+/* What told[0] says. docs/HANDBOOK.md has a section on each, with what the place counts and what to do. (16 is platecut's alone: its input is too long.) */
+enum plates_refusal {
+    PLATES_DONE = 0,
+    PLATES_TOO_MANY_LEVELS = 1,
+    PLATES_LIST_CUT_OFF = 2,
+    PLATES_CAGE_TOO_LARGE = 3,
+    PLATES_COORDINATE_OUT_OF_RANGE = 4,
+    PLATES_CORNER_NAMES_NO_VERTEX = 5,
+    PLATES_EQUAL_CORNERS = 6,
+    PLATES_SIDE_USED_TWICE = 7,
+    PLATES_FACE_ON_ANOTHER = 8,
+    PLATES_VERTEX_ON_NO_FACE = 9,
+    PLATES_TWO_FANS = 10,
+    PLATES_WALK_DOES_NOT_END = 11,
+    PLATES_TOO_MANY_RAYS = 12,
+    PLATES_LAST_LEVEL_TOO_LARGE = 13,
+    PLATES_BUFFER_SHORT = 14,
+    PLATES_NOT_A_SHEET = 15
+};
 
 /* Whole micrometres, -1,000,000,000 to 1,000,000,000. */
 void plates_loop_subdivide_whole(uint32_t levels,
@@ -29,7 +68,8 @@ void plates_loop_subdivide_whole(uint32_t levels,
                                  int32_t *work, size_t work_length,
                                  uint32_t told[5]);
 
-/* f32, finite and of size at most 2^40; with normals, which are not made unit. */
+/* f32, finite and of size at most 2^40; with normals, which are not made unit. They point to the side from which the faces turn clockwise: a face (0,0,0), (1,0,0),
+   (0,1,0) has them along -z. Negate them for the other habit. */
 void plates_loop_subdivide(uint32_t levels,
                            const uint32_t *indices, size_t indices_length,
                            const float *coords, size_t coords_length,
