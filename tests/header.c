@@ -1,5 +1,5 @@
 /* What crates/plates/plates.h says besides its declarations, tried: the name of each refusal, the room that always does, NULL at length 0, the side that normals point to,
-   many threads at once, and each of the calls in a thread whose stack has PLATES_STACK bytes and not one more. A call that wants more meets the page below it, and this
+   many threads at once, and each of the calls in a thread whose stack has the bytes that plates.h names and not one more. A call that wants more meets the page below it, and this
    program ends by a signal, without its last line. */
 #define _GNU_SOURCE
 #include <pthread.h>
@@ -252,7 +252,7 @@ static void small_threads(void) {
     for (size_t i = 0; i < made; i++)
         for (int kind = 0; kind < CALLS; kind++) {
             Task *t = task(kind, cages[i], lent);
-            end(begin(t, PLATES_STACK));
+            end(begin(t, kind == SHEET ? PLATES_STACK_SHEET : PLATES_STACK));
             expect(cages[i]->name, CALL[kind], said(t));
             free(t);
         }

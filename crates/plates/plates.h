@@ -11,7 +11,8 @@
    told[0] is 0 and told[2], told[3], told[4] are the vertices, faces and rim sides of the last level; or told[0] is a refusal's number, told[1] its place
    (docs/HANDBOOK.md), and the rest is 0.
 
-   Any number of threads may call at once, each with buffers of its own; a cage may be shared. A call takes less than PLATES_STACK bytes of its thread's stack. */
+   Any number of threads may call at once, each with buffers of its own; a cage may be shared. A call on lists takes less than PLATES_STACK bytes of its
+   thread's stack, the call on a sheet less than PLATES_STACK_SHEET. */
 #ifndef PLATES_H
 #define PLATES_H
 
@@ -25,8 +26,10 @@ extern "C" {
 /* Counts up when something in this file changes, or what a call answers. */
 #define PLATES_VERSION 1
 
-/* The stack that a call may take, in bytes: give a thread as much, and what its own functions take besides. Some systems give a thread no more than 128 KB. */
-#define PLATES_STACK 262144
+/* The stack that a call may take, in bytes: give a thread as much, and what its own functions take besides. Where a system gives a thread 128 KB, the calls on lists run in it;
+   the call on a sheet holds the sheet's lists too. */
+#define PLATES_STACK 114688       /* 112 KB */
+#define PLATES_STACK_SHEET 212992 /* 208 KB */
 
 /* The most faces and vertices of a control cage, and of a level. */
 #define PLATES_MOST_IN_CAGE 4096

@@ -35,7 +35,7 @@ fn threes<T: Copy>(list: &[T]) -> Vec<[T; 3]> {
     list.chunks_exact(3).map(|c| [c[0], c[1], c[2]]).collect()
 }
 
-/// Whole micrometres. Every list of numbers gets a mesh or a refusal; nothing has to be checked beforehand. The call takes at most 138 KB of stack: a thread of 256 KB does
+/// Whole micrometres. Every list of numbers gets a mesh or a refusal; nothing has to be checked beforehand. A thread of 112 KB of stack does
 /// (crates/plates/plates.h), and one that the standard library makes has 2 MB.
 pub fn loop_subdivide_whole(levels: u32, indices: &[u32], coords: &[i32]) -> Result<Mesh, Refusal> {
     let mut positions = vec![0i32; 3 * MOST];

@@ -18,7 +18,7 @@ use super::sides::side_of;
 use faces::Turn;
 
 // How many corners each vertex has.
-pub fn count_corners(indices: &[u32], counts: &mut [u32])
+pub fn count_corners(indices: &[u32], counts: &mut [u16])
     requires sizes { ⌜ Faces (now indices) × Below (length (now counts)) (now indices) ⌝ }
     requires empty { ⌜ Tallied (now indices) 0 (now counts) ⌝ }
     ensures { λ r. ⌜ Tallied (now (indices .entry)) (length (now (indices .entry))) (now (counts .exit)) ⌝ }
@@ -33,7 +33,7 @@ pub fn count_corners(indices: &[u32], counts: &mut [u32])
 }
 
 // 9: no side leaves vertex u. The faces are what the heads are of.
-fn unused(indices: &[u32], heads: &[u32], v: usize) -> Check
+fn unused(indices: &[u32], heads: &[u16], v: usize) -> Check
     requires { ⌜ Heads (now indices) (length (now indices)) (now heads) × (v ≤ length (now heads)) × (v ≤ 4096) ⌝ }
     ensures { λ r. ⌜ r ≡ verdictOf (check 9 (lowest (λ u. not (found (find (eqb u) (now (indices .entry))))) v)) ⌝ }
 {
@@ -48,7 +48,7 @@ fn unused(indices: &[u32], heads: &[u32], v: usize) -> Check
 }
 
 // Round vertex u from its start corner.
-fn turn_at(indices: &[u32], heads: &[u32], words: &[u32], u: usize) -> Turn
+fn turn_at(indices: &[u32], heads: &[u16], words: &[u32], u: usize) -> Turn
     requires tables { ⌜ Tables (now indices) (now heads) (now words) ⌝ }
     requires used { ⌜ (u < length (now heads)) × (0 < getD (now heads) u 0) ⌝ }
     ensures { λ r. ⌜ r ≡ turnOf (fan (links (now (indices .entry))) (lastCorner (now (indices .entry)) u)) ⌝ }
@@ -57,7 +57,7 @@ fn turn_at(indices: &[u32], heads: &[u32], words: &[u32], u: usize) -> Turn
     faces::turn_round(words, 0, indices.len() / 3, s)
 }
 
-fn short(t: Turn, n: u32) -> bool
+fn short(t: Turn, n: u16) -> bool
     ensures { λ r. ⌜ r ≡ shortOf t n ⌝ }
 {
     match t {
@@ -100,7 +100,7 @@ fn first(seen: usize, v: usize, here: bool, u: usize) -> usize
 }
 
 // 10 to 12 in one walk round each vertex: 10 anywhere comes before 11 anywhere, and that before 12. 11 is never given.
-fn turns(indices: &[u32], heads: &[u32], counts: &[u32], words: &[u32], v: usize) -> Check
+fn turns(indices: &[u32], heads: &[u16], counts: &[u16], words: &[u32], v: usize) -> Check
     requires tables { ⌜ Tables (now indices) (now heads) (now words) ⌝ }
     requires counts { ⌜ Tallied (now indices) (length (now indices)) (now counts) × (v ≤ length (now counts)) × (v ≤ 4096) ⌝ }
     requires used { ⌜ Used v (now heads) ⌝ }
@@ -128,7 +128,7 @@ fn turns(indices: &[u32], heads: &[u32], counts: &[u32], words: &[u32], v: usize
 }
 
 // 9 to 12.
-pub fn fans(indices: &[u32], heads: &[u32], counts: &[u32], words: &[u32], v: usize) -> Check
+pub fn fans(indices: &[u32], heads: &[u16], counts: &[u16], words: &[u32], v: usize) -> Check
     requires tables { ⌜ Tables (now indices) (now heads) (now words) ⌝ }
     requires counts { ⌜ Tallied (now indices) (length (now indices)) (now counts) × (v ≤ length (now counts)) × (v ≤ length (now heads)) × (v ≤ 4096) ⌝ }
     ensures { λ r. ⌜ r ≡ verdictOf (fanRefusal v (now (indices .entry))) ⌝ }

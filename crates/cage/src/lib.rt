@@ -102,8 +102,8 @@ pub fn link_words(indices: &[u32], v: usize, words: &mut [u32], at: usize)
     requires once { ⌜ Once (now indices) ⌝ }
     ensures { λ r. ⌜ now (words .exit) ≡ sets (sets (now (words .entry)) at (map coded (links (now (indices .entry))))) (at + length (now (indices .entry))) (cage v (now (indices .entry)) .starts) ⌝ }
 {
-    let mut heads = [0u32; 4096];
-    let mut nexts = [0u32; 12288];
+    let mut heads = [0u16; 4096];
+    let mut nexts = [0u16; 12288];
     sides::chain(indices, &mut heads, &mut nexts);
     sides::put_links(indices, &heads, &nexts, words, at);
     sides::put_starts(&heads, v, words, at + indices.len());
@@ -125,12 +125,12 @@ fn judge_size(levels: u32, indices: &[u32], words: &[u32], v: usize) -> Outcome
     }
 }
 
-fn judge_fans(levels: u32, indices: &[u32], heads: &[u32], words: &[u32], v: usize) -> Outcome
+fn judge_fans(levels: u32, indices: &[u32], heads: &[u16], words: &[u32], v: usize) -> Outcome
     requires sizes { ⌜ (levels ≤ 7) × (v ≤ 4096) × (length (now heads) ≡ 4096) × Listed v (now indices) ⌝ }
     requires tables { ⌜ Tables (now indices) (now heads) (now words) ⌝ }
     ensures { λ r. ⌜ r ≡ judged (fromNine levels v (now (indices .entry))) levels v (now (indices .entry)) ⌝ }
 {
-    let mut counts = [0u32; 4096];
+    let mut counts = [0u16; 4096];
     fans::count_corners(indices, &mut counts);
     match fans::fans(indices, heads, &counts, words, v) {
         Check::No(x) => Outcome::Refused(x),
@@ -138,7 +138,7 @@ fn judge_fans(levels: u32, indices: &[u32], heads: &[u32], words: &[u32], v: usi
     }
 }
 
-fn judge_links(levels: u32, indices: &[u32], heads: &[u32], nexts: &[u32], v: usize) -> Outcome
+fn judge_links(levels: u32, indices: &[u32], heads: &[u16], nexts: &[u16], v: usize) -> Outcome
     requires sizes { ⌜ (levels ≤ 7) × (v ≤ 4096) × (length (now heads) ≡ 4096) × Faces (now indices) ⌝ }
     requires list { ⌜ Below v (now indices) × Apart (now indices) × Once (now indices) ⌝ }
     requires chains { ⌜ Heads (now indices) (length (now indices)) (now heads) × Chained (now indices) (length (now indices)) (now nexts) ⌝ }
@@ -156,8 +156,8 @@ fn judge_sides(levels: u32, indices: &[u32], v: usize) -> Outcome
     requires { ⌜ (levels ≤ 7) × (v ≤ 4096) × Faces (now indices) × Below v (now indices) × Apart (now indices) ⌝ }
     ensures { λ r. ⌜ r ≡ judged (fromSeven levels v (now (indices .entry))) levels v (now (indices .entry)) ⌝ }
 {
-    let mut heads = [0u32; 4096];
-    let mut nexts = [0u32; 12288];
+    let mut heads = [0u16; 4096];
+    let mut nexts = [0u16; 12288];
     sides::chain(indices, &mut heads, &mut nexts);
     match list::reused(indices, &nexts) {
         Check::No(x) => Outcome::Refused(x),

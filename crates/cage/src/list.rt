@@ -62,7 +62,7 @@ pub fn flat(indices: &[u32]) -> Check
 }
 
 // 7: an earlier side that leaves the same vertex ends where side s does.
-pub fn reused(indices: &[u32], nexts: &[u32]) -> Check
+pub fn reused(indices: &[u32], nexts: &[u16]) -> Check
     requires sizes { ⌜ Faces (now indices) ⌝ }
     requires nexts { ⌜ Chained (now indices) (length (now indices)) (now nexts) ⌝ }
     ensures { λ r. ⌜ r ≡ verdictOf (check 7 (lowest (usedBefore (sides (now (indices .entry)))) (3 * (length (now (indices .entry)) / 3)))) ⌝ }

@@ -17,7 +17,7 @@ pub fn end_of(indices: &[u32], s: usize) -> u32
 }
 
 // Of the sides that leave a vertex, heads holds one past the last; of each side, nexts holds one past the one before it at its vertex. 0 is none.
-pub fn chain(indices: &[u32], heads: &mut [u32], nexts: &mut [u32])
+pub fn chain(indices: &[u32], heads: &mut [u16], nexts: &mut [u16])
     requires sizes { ⌜ Faces (now indices) × Below (length (now heads)) (now indices) ⌝ }
     requires empty { ⌜ Heads (now indices) 0 (now heads) × Chained (now indices) 0 (now nexts) ⌝ }
     ensures heads { λ r. ⌜ Heads (now (indices .entry)) (length (now (indices .entry))) (now (heads .exit)) ⌝ }
@@ -28,12 +28,12 @@ pub fn chain(indices: &[u32], heads: &mut [u32], nexts: &mut [u32])
         let a = indices[s] as usize;
         nexts[s] = heads[a];
         s = s + 1;
-        heads[a] = s as u32;
+        heads[a] = s as u16;
     }
 }
 
 // Along a chain from `head` on: one past the last side that ends at b, or 0.
-pub fn seek(indices: &[u32], nexts: &[u32], head: u32, b: u32) -> u32
+pub fn seek(indices: &[u32], nexts: &[u16], head: u16, b: u32) -> u32
     requires sizes { ⌜ Faces (now indices) × (head ≤ length (now indices)) ⌝ }
     requires nexts { ⌜ Chained (now indices) (length (now indices)) (now nexts) ⌝ }
     ensures { λ r. ⌜ r ≡ lastBelow (runs (now (indices .entry)) (corner (now (indices .entry)) (head - 1)) b) head ⌝ }
@@ -42,7 +42,7 @@ pub fn seek(indices: &[u32], nexts: &[u32], head: u32, b: u32) -> u32
     while h > 0 {
         let k = (h - 1) as usize;
         if end_of(indices, k) == b {
-            return h;
+            return h as u32;
         }
         h = nexts[k];
     }
@@ -50,7 +50,7 @@ pub fn seek(indices: &[u32], nexts: &[u32], head: u32, b: u32) -> u32
 }
 
 // The link word of each side: along the chain of the sides that leave its end, the one that comes back.
-pub fn put_links(indices: &[u32], heads: &[u32], nexts: &[u32], words: &mut [u32], at: usize)
+pub fn put_links(indices: &[u32], heads: &[u16], nexts: &[u16], words: &mut [u32], at: usize)
     requires sizes { ⌜ Faces (now indices) × Below (length (now heads)) (now indices) × (at + length (now indices) ≤ length (now words)) ⌝ }
     requires chains { ⌜ Heads (now indices) (length (now indices)) (now heads) × Chained (now indices) (length (now indices)) (now nexts) ⌝ }
     requires once { ⌜ Once (now indices) ⌝ }
@@ -66,14 +66,14 @@ pub fn put_links(indices: &[u32], heads: &[u32], nexts: &[u32], words: &mut [u32
 }
 
 // The side at that place of a chain; 0 where the chain is empty.
-pub fn side_of(h: u32) -> u32
+pub fn side_of(h: u16) -> u32
     ensures { λ r. ⌜ r ≡ before h ⌝ }
 {
-    if h == 0 { 0 } else { h - 1 }
+    if h == 0 { 0 } else { (h - 1) as u32 }
 }
 
 // A vertex starts at the last corner in the list that is it.
-pub fn put_starts(heads: &[u32], v: usize, words: &mut [u32], at: usize)
+pub fn put_starts(heads: &[u16], v: usize, words: &mut [u32], at: usize)
     requires { ⌜ (v ≤ length (now heads)) × (at + v ≤ length (now words)) ⌝ }
     ensures { λ r. ⌜ now (words .exit) ≡ sets (now (words .entry)) at (map before (take v (now (heads .entry)))) ⌝ }
 {

@@ -63,6 +63,9 @@ cast-k c = search needs
 end-of-requires : tie.Need-end-of-requires Inv-loop μ-loop
 end-of-requires c κs = (c .before .before .before .before .pre .0 .0, omega (arith, c .before .before .before .before .pre .0))
 
+cast-result : tie.Need-cast-result Inv-loop μ-loop
+cast-result c = search needs
+
 returns : tie.Need-returns Inv-loop μ-loop
 returns c = sym (turn (c .before) ∙ rw (eq-eqb _ _ (sym (c .if1 .taken) ∙ c .before .end-of .ensures)))
 
@@ -103,6 +106,7 @@ seek-spec =
     sub-k
     cast-k
     end-of-requires
+    cast-result
     returns
     mul-h
     shared-slice-read-h
