@@ -312,6 +312,8 @@ static void nulls(void) {
     expect("NULL for all", "f32", tells(told, PLATES_DONE, 0));
     plates_subdivide_sheet(NULL, 0, NULL, 0, NULL, 0, NULL, 0, NULL, 0, told);
     expect("NULL for all", "sheet", tells(told, PLATES_NOT_A_SHEET, 0));
+    plates_write_sheet(7, NULL, 0, NULL, 0, NULL, 0, told);
+    expect("NULL for all", "writer", told[0] == PLATES_NO_ROOM_FOR_SHEET && !told[1] && !told[2]);
     plates_loop_subdivide_whole(8, NULL, 0, NULL, 0, NULL, 0, NULL, 0, NULL, 0, NULL, 0, told);
     expect("NULL, and 8 levels", "whole", tells(told, PLATES_TOO_MANY_LEVELS, 0));
     plates_loop_subdivide_whole(0, &corner, 1, NULL, 0, NULL, 0, NULL, 0, NULL, 0, NULL, 0, told);

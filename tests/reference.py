@@ -1,5 +1,5 @@
 #!/usr/bin/env python3
-"""An independent reference of both engines, the checks, the sheets and `platecut`, from docs/RULES.md alone.
+"""An independent reference of both engines, the checks, the sheets, their writer, `platecut` and `makesheet`, from docs/RULES.md alone.
 
 It shares no code with the Rattle crates or the oracle, searches where they keep links, and works in Python's own whole numbers and
 fractions. `python3 tests/reference.py < sheet` prints what `platecut` prints.
@@ -410,6 +410,7 @@ def loop_subdivide(levels, indices, coords, room=None):
 # ---- sheets and platecut
 
 def write_sheet(levels, indices, coords):
+    """The bytes of any lists, unchecked."""
     vertices, faces = len(coords) // 3, len(indices) // 3
     return struct.pack(f"<{len(coords)}i{len(indices)}I5I", *coords, *indices, 0, vertices, 12 * vertices, faces, levels)
 
@@ -424,6 +425,33 @@ def read_sheet(sheet):
     coords = struct.unpack(f"<{3 * vertices}i", sheet[:face_offset])
     indices = struct.unpack(f"<{3 * faces}I", sheet[face_offset:-20])
     return levels, list(indices), list(coords)
+
+
+def write_checked(levels, indices, coords, room):
+    """The sheet of lists that checks 1 to 12 have nothing against, if there is room for it."""
+    check_cage(levels, indices, coords, WHOLE)
+    needed_bytes = 4 * len(coords) + 4 * len(indices) + 20
+    if room < needed_bytes:
+        raise Refused(17)
+    sheet = b"".join((c % 2**32).to_bytes(4, "little") for c in coords) + b"".join(v.to_bytes(4, "little") for v in indices)
+    vertices, faces = len(coords) // 3, len(indices) // 3
+    return sheet + b"".join(n.to_bytes(4, "little") for n in (0, vertices, 12 * vertices, faces, levels))
+
+
+def makesheet(given):
+    """What `makesheet` writes to standard output and to standard error."""
+    try:
+        if len(given) > 98316:
+            raise Refused(16)
+        if len(given) < 12:
+            raise Refused(15)
+        levels, coordinates, corners = struct.unpack("<3I", given[:12])
+        if len(given) != 12 + 4 * coordinates + 4 * corners:
+            raise Refused(15)
+        lists = struct.unpack(f"<{coordinates}i{corners}I", given[12:])
+        return write_checked(levels, list(lists[coordinates:]), list(lists[:coordinates]), 98324), b""
+    except Refused as refusal:
+        return b"", f"{refusal}\n".encode()
 
 
 def platecut(sheet):

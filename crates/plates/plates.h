@@ -24,7 +24,7 @@ extern "C" {
 #endif
 
 /* Counts up when something in this file changes, or what a call answers. */
-#define PLATES_VERSION 1
+#define PLATES_VERSION 2
 
 /* The stack that a call may take, in bytes: give a thread as much, and what its own functions take besides. Where a system gives a thread 128 KB, the calls on lists run in it;
    the call on a sheet holds the sheet's lists too. */
@@ -58,7 +58,8 @@ enum plates_refusal {
     PLATES_TOO_MANY_RAYS = 12,
     PLATES_LAST_LEVEL_TOO_LARGE = 13,
     PLATES_BUFFER_SHORT = 14,
-    PLATES_NOT_A_SHEET = 15
+    PLATES_NOT_A_SHEET = 15,
+    PLATES_NO_ROOM_FOR_SHEET = 17
 };
 
 /* Whole micrometres, -1,000,000,000 to 1,000,000,000. */
@@ -90,6 +91,15 @@ void plates_subdivide_sheet(const uint8_t *bytes, size_t bytes_length,
                             uint32_t *words, size_t words_length,
                             int32_t *work, size_t work_length,
                             uint32_t told[5]);
+
+/* A sheet from bare lists, in whole micrometres, into the front of `bytes`: 12V+12F+20 bytes, never over 98,324. told[0] is 0 and told[2] the sheet's length; or told[0]
+   is a refusal's number, 1 to 12 as of a cage or 17 where `bytes` is too short, told[1] its place and told[2] 0, and no byte is written. Bytes past the length are
+   unchanged. 13 and 14 are not asked: they are the cut's. `bytes` and told must not overlap each other or the lists. */
+void plates_write_sheet(uint32_t levels,
+                        const uint32_t *indices, size_t indices_length,
+                        const int32_t *coords, size_t coords_length,
+                        uint8_t *bytes, size_t bytes_length,
+                        uint32_t told[3]);
 
 #ifdef __cplusplus
 }

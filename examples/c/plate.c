@@ -24,6 +24,7 @@ static const char *name(uint32_t refusal) {
     case PLATES_LAST_LEVEL_TOO_LARGE: return "the last level is too large";
     case PLATES_BUFFER_SHORT: return "a lent buffer is short";
     case PLATES_NOT_A_SHEET: return "not a sheet";
+    case PLATES_NO_ROOM_FOR_SHEET: return "no room for the sheet";
     default: return "no refusal";
     }
 }

@@ -1,5 +1,5 @@
 //! A safe way into the static library of crate `plates` from Rust, and a small use of it. Built and run by tests/gate-rust.
-//! Nothing checks the declaration below against crates/plates/src/lib.rt: keep the two side by side.
+//! Nothing checks the declarations below against crates/plates/src/lib.rt: keep the two side by side.
 
 /// Why a cage or a sheet was refused: docs/HANDBOOK.md explains each number.
 #[derive(Debug, PartialEq)]
@@ -26,10 +26,20 @@ extern "C" {
         work: *mut i32, work_len: usize,
         told: *mut u32,
     );
+    fn plates_write_sheet(
+        levels: u32,
+        indices: *const u32, indices_len: usize,
+        coords: *const i32, coords_len: usize,
+        bytes: *mut u8, bytes_len: usize,
+        told: *mut u32,
+    );
 }
 
 /// No level has more faces or vertices than this, so room for as many is room for every answer.
 const MOST: usize = 32_768;
+
+/// The longest sheet: 4,096 vertices, 4,096 faces and the trailer.
+const MOST_BYTES: usize = 12 * 4_096 + 12 * 4_096 + 20;
 
 fn threes<T: Copy>(list: &[T]) -> Vec<[T; 3]> {
     list.chunks_exact(3).map(|c| [c[0], c[1], c[2]]).collect()
@@ -65,6 +75,28 @@ pub fn loop_subdivide_whole(levels: u32, indices: &[u32], coords: &[i32]) -> Res
     Ok(Mesh { positions: threes(&positions), faces: threes(&out), rim_sides })
 }
 
+/// The sheet of a cage, or why there is none. Every list of numbers gets one or the other.
+pub fn write_sheet(levels: u32, indices: &[u32], coords: &[i32]) -> Result<Vec<u8>, Refusal> {
+    let mut bytes = vec![0u8; MOST_BYTES];
+    let mut told = [0u32; 3];
+    // SAFETY: as above.
+    unsafe {
+        plates_write_sheet(
+            levels,
+            indices.as_ptr(), indices.len(),
+            coords.as_ptr(), coords.len(),
+            bytes.as_mut_ptr(), bytes.len(),
+            told.as_mut_ptr(),
+        );
+    }
+    let [number, place, length] = told;
+    if number != 0 {
+        return Err(Refusal { number, place });
+    }
+    bytes.truncate(length as usize);
+    Ok(bytes)
+}
+
 fn main() {
     let triangle = [0, 0, 0, 8, 0, 0, 0, 8, 0];
     match loop_subdivide_whole(1, &[0, 1, 2], &triangle) {
@@ -78,6 +110,12 @@ fn main() {
     for (levels, indices, coords) in [(8, vec![0, 1, 2], &triangle[..]), (0, vec![0, 1, 2, 0, 2, 1], &triangle[..]), (0, vec![0, 1, 3], &triangle[..]), (0, vec![], &[])] {
         match loop_subdivide_whole(levels, &indices, coords) {
             Ok(mesh) => println!("mesh {} {} {}", mesh.positions.len(), mesh.faces.len(), mesh.rim_sides),
+            Err(r) => println!("refused {} at {}", r.number, r.place),
+        }
+    }
+    for (levels, indices) in [(1, vec![0, 1, 2]), (0, vec![0, 1, 3])] {
+        match write_sheet(levels, &indices, &triangle) {
+            Ok(sheet) => println!("sheet {}", sheet.iter().map(|b| format!("{b:02x}")).collect::<String>()),
             Err(r) => println!("refused {} at {}", r.number, r.place),
         }
     }

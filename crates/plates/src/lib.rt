@@ -1,5 +1,8 @@
-// For C (plates.h): the public calls over numbers and slices, with the five numbers of document 01 for the answer. Each promises all that the call below it does.
+// For C (plates.h): the public calls over numbers and slices, with numbers for the answer: document 01's five, and the writer's three. Each promises all that the call below it does.
+ghost use mathlib.Core.Path.{_≡_};
 ghost use Rattle.rules.specs.Calls.{given, lent, buffers, WholeCall, SingleCall, SheetCall, Told};
+ghost use Rattle.writer.specs.Writing.{writtenAnswer, WriteTold};
+use writer::Written;
 
 #[no_mangle]
 pub extern "C" fn plates_loop_subdivide_whole(
@@ -66,4 +69,33 @@ pub extern "C" fn plates_subdivide_sheet(
         sheet::subdivide_sheet(bytes, positions, out, words, work),
         told,
     );
+}
+
+fn tell_written(w: Written, told: &mut [u32; 3])
+    ensures { λ r. ⌜ now (told .exit) ≡ writtenAnswer w ⌝ }
+{
+    match w {
+        Written::Bytes(n) => {
+            *told = [0, 0, n];
+        }
+        Written::Refused(r) => {
+            let n = r.number;
+            let p = r.place;
+            *told = [n, p, 0];
+        }
+    }
+}
+
+// A sheet from bare lists: refusal number or 0, place, length in bytes.
+#[no_mangle]
+pub extern "C" fn plates_write_sheet(
+    levels: u32,
+    indices: &[u32],
+    coords: &[i32],
+    bytes: &mut [u8],
+    told: &mut [u32; 3],
+)
+    ensures { λ r. ⌜ WriteTold levels (given indices) (given coords) (lent bytes) (now (told .exit)) ⌝ }
+{
+    tell_written(writer::write_sheet(levels, indices, coords, bytes), told);
 }

@@ -112,6 +112,13 @@ fanRefusal v fs =
     orElse check 11 (lowest (λ u. isEndless (fans u)) v)
     orElse check 12 (lowest (λ u. ltb mostValence (valence (fans u))) v)
 
+-- 1 to 12, "the mesh checks"
+unfoldable pub meshRefusal : (𝓝 : Numbers) → ℕ → List ℕ → List (𝓝 .N) → Option Refusal
+meshRefusal 𝓝 l fs xs =
+    let v = length xs / 3 in
+    let fans = fanRefusal v fs in
+    shapeRefusal l (length fs) (length xs) orElse rangeRefusal 𝓝 xs orElse listRefusal v fs orElse fans
+
 unfoldable pub sizeRefusal : ℕ → ℕ → List ℕ → Option Refusal
 sizeRefusal l v fs = check 13 (when (tooLarge (after l (sizes (cage v fs)))))
 

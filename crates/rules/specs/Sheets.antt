@@ -1,12 +1,12 @@
 -- Document 01, "Sheets and limits": a sheet is the vertex block, the face block, and a trailer of five numbers; little endian throughout. And what `platecut`
 -- answers. Assumes nothing.
-use Prim.Native.Nat.{ℕ, _+_, _-_, _*_}
+use Prim.Native.Nat.{ℕ, _+_, _-_, _*_, _/_, _%_}
 use mathlib.Core.Bool.{Bool, not, _||_}
-use mathlib.Core.List.{List, [], _∷_}
+use mathlib.Core.List.{List, [], _∷_, _++_, map}
 use lib.IntN.{ℤ, pos, negsuc}
 use lib.ListN.{length, getD, take}
 use lib.Dec.{ltb, eqb}
-use Rattle.lists.specs.Lists.{pick, rows, part}
+use Rattle.lists.specs.Lists.{pick, gather, rows, part}
 use Rattle.rules.specs.Position.{whole}
 use Rattle.rules.specs.Refusals.{check, when, Room}
 use Rattle.rules.specs.Answers.{wholeRooms, unless, outcome}
@@ -19,6 +19,14 @@ wordAt b i = getD b i 0 + 256 * getD b (i + 1) 0 + 65536 * getD b (i + 2) 0 + 16
 
 abbrev pub signed : ℕ → ℤ
 signed w = pick (ltb w 2147483648) (pos w) (negsuc (4294967295 - w))
+
+-- and back: an unsigned number in four bytes, and the one whose bits a signed one has
+abbrev pub bytesOf : ℕ → List ℕ
+bytesOf w = (w % 256) ∷ (w / 256 % 256) ∷ (w / 65536 % 256) ∷ (w / 16777216 % 256) ∷ []
+
+abbrev pub unsigned : ℤ → ℕ
+unsigned (pos n) = n
+unsigned (negsuc n) = 4294967295 - n
 
 -- n numbers from byte 0 on
 abbrev pub wordsOf : List ℕ → ℕ → List ℕ
@@ -60,6 +68,13 @@ sheetCoords b = coordsOf (vertexBlock b) (3 * sheetVerts b)
 
 abbrev pub sheetIndices : List ℕ → List ℕ
 sheetIndices b = wordsOf (faceBlock b) (3 * sheetFaces b)
+
+-- ---- request [1]: the sheet of levels, face list and coordinates
+
+unfoldable pub sheetBytes : ℕ → List ℕ → List ℤ → List ℕ
+sheetBytes l fs xs =
+    let v = length xs / 3 in let f = length fs / 3 in
+    gather bytesOf (map unsigned xs) ++ (gather bytesOf fs ++ gather bytesOf (0 ∷ v ∷ 12 * v ∷ f ∷ l ∷ []))
 
 -- ---- the whole engine on a sheet
 

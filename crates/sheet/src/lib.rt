@@ -29,7 +29,7 @@ fn wide(b: u8) -> u32
 }
 
 // Little endian.
-fn word_at(b: &[u8], i: usize) -> u32
+pub fn word_at(b: &[u8], i: usize) -> u32
     requires { ⌜ i + 4 ≤ length (now b) ⌝ }
     ensures { λ r. ⌜ r ≡ wordAt (now (b .entry)) i ⌝ }
 {
@@ -123,7 +123,7 @@ pub fn face_block<'a>(b: &'a [u8]) -> &'a [u8]
 }
 
 // The numbers of a block, into the front of what is lent.
-fn words_from(b: &[u8], n: usize, s: &mut [u32])
+pub fn words_from(b: &[u8], n: usize, s: &mut [u32])
     requires { ⌜ (4 * n ≤ length (now b)) × (n ≤ length (now s)) ⌝ }
     ensures { λ r. ⌜ now (s .exit) ≡ sets (now (s .entry)) 0 (wordsOf (now (b .entry)) n) ⌝ }
 {
@@ -132,7 +132,7 @@ fn words_from(b: &[u8], n: usize, s: &mut [u32])
     }
 }
 
-fn coords_from(b: &[u8], n: usize, s: &mut [i32])
+pub fn coords_from(b: &[u8], n: usize, s: &mut [i32])
     requires { ⌜ (4 * n ≤ length (now b)) × (n ≤ length (now s)) ⌝ }
     ensures { λ r. ⌜ now (s .exit) ≡ sets (now (s .entry)) 0 (coordsOf (now (b .entry)) n) ⌝ }
 {
