@@ -231,9 +231,10 @@ def edge_rule(mesh, f, k):
     return [(low, 3), (high, 3), (far_corner(face, (a, b)), 1), (far_corner(mesh.faces[other], (a, b)), 1)], 8
 
 
-def half_up(numerator, denominator):
-    """The nearest whole number; a half goes up."""
-    return (2 * numerator + denominator) // (2 * denominator)
+def half_away(numerator, denominator):
+    """The nearest whole number; a half goes away from zero."""
+    size = (2 * abs(numerator) + denominator) // (2 * denominator)
+    return size if numerator >= 0 else -size
 
 
 def exact(numerator, denominator):
@@ -263,7 +264,7 @@ def triples(flat):
 
 
 def limit(mesh, coords, levels, rounded):
-    """The last mesh and its limit points: rounded by `half_up` the whole engine's, by `exact` the exact limit positions."""
+    """The last mesh and its limit points: rounded by `half_away` the whole engine's, by `exact` the exact limit positions."""
     mesh, points = run_levels(mesh, triples(coords), levels, rounded)
     return mesh, [mean(points, rule, rounded) for rule in vertex_rules(mesh, at_limit)]
 
@@ -273,7 +274,7 @@ def counts_of(mesh):
 
 
 def loop_subdivide_whole(levels, indices, coords, room=None):
-    mesh, points = limit(check(levels, indices, coords, WHOLE, room), coords, levels, half_up)
+    mesh, points = limit(check(levels, indices, coords, WHOLE, room), coords, levels, half_away)
     return Answer(counts_of(mesh), [v for face in mesh.faces for v in face], [c for p in points for c in p], None)
 
 
