@@ -3,15 +3,15 @@ use mathlib.Core.Path.{_≡_, refl, sym, ap, ap₂, _∙_}
 use mathlib.Core.Logic.{_≢_}
 use Prim.Native.Nat.{ℕ, zero, suc, _+_, _*_, _≤_, _<_}
 use native.Mathlib.Omega.{arith}
-use mathlib.Core.List.{List}
+use mathlib.Core.List.{List, [], _∷_}
 use mathlib.Core.Option.{Option, none, some}
 use lib.ListN.{length, getD, length-map}
 use Rattle.lists.specs.Lists.{part}
 use Rattle.lists.proofs.Stores.{getD-part}
 use Rattle.rules.specs.Mesh.{onward, corner, links, Fan, inner, rim, endless, fan, valence, ring, Mesh}
 use Rattle.rules.proofs.Refine.{Good}
-use Rattle.rules.proofs.Sides.{on-below}
-use Rattle.rules.proofs.Faces.{link-below, link-twins}
+use Rattle.rules.proofs.Sides.{on-below, length-links}
+use Rattle.rules.proofs.Faces.{link-below, link-twins, link-link}
 use Rattle.rules.proofs.Turns.{fan-ends}
 use Rattle.rules.proofs.Sound.{Sound}
 use Rattle.rules.proofs.Levels.{Small}
@@ -34,6 +34,11 @@ link-coded (some t) = refl
 coded-below : (n : ℕ) (o : Option ℕ) → ((t : ℕ) → o ≡ some t → t < n) → coded o ≤ n
 coded-below n none h = omega arith
 coded-below n (some t) h = h t refl
+
+in-list : (l : List (Option ℕ)) (i t : ℕ) → getD l i none ≡ some t → i < length l
+in-list [] i t e = absurd (let z : _≡_ {A = ℕ} 0 1 = cc in omega arith)
+in-list (x ∷ l) zero t e = omega arith
+in-list (x ∷ l) (suc i) t e = let h = in-list l i t e in omega arith
 
 -- ---- a mesh of n faces, held from `at` on
 
@@ -89,8 +94,16 @@ module _ (w : List ℕ) (at n : ℕ) (m : Mesh) (h : Holds w at m) (g : Good (m 
         corner-word t (link-below (m .verts) n (m .faces) g i t k z) ∙ link-twins (m .verts) n (m .faces) g i t k z .from ∙ sym (corner-word (onward i) (on-below i n k));
   }
 
+  -- "the neighbour's link at that edge leads back"
+  leads-back : (i t : ℕ) → getD (linksIn w (at + 3 * n) (3 * n)) i none ≡ some t → getD (linksIn w (at + 3 * n) (3 * n)) t none ≡ some i
+  leads-back i t e =
+      let a : getD (links (m .faces)) i none ≡ some t = sym (ap (λ (l : List (Option ℕ)). getD l i none) links-held) ∙ e in
+      let k = in-list (links (m .faces)) i t a in
+      ap (λ (l : List (Option ℕ)). getD l t none) links-held
+      ∙ link-link (m .verts) n (m .faces) g i t (omega (arith, length-links (m .faces), g .size)) a
+
   pub ringable : (s : ℕ) → s < 3 * n → valence (fan (links (m .faces)) s) ≤ 16 → Ringable w at (at + 3 * n) n s
-  ringable s k v = record { walkable = walkable s k; room = omega (arith, room-held); mated = mates; turns = λ e. fan-ends (m .verts) n (m .faces) g s k (sym (fan-held s) ∙ e); few = rw (fan-held s) v }
+  ringable s k v = record { walkable = walkable s k; room = omega (arith, room-held); mated = mates; leads = leads-back; turns = λ e. fan-ends (m .verts) n (m .faces) g s k (sym (fan-held s) ∙ e); few = rw (fan-held s) v }
 
   pub ring-held : (s : ℕ) → ring (part at (3 * n) w) (fan (linksIn w (at + 3 * n) (3 * n)) s) ≡ ring (m .faces) (fan (links (m .faces)) s)
   ring-held s = ap₂ ring faces-held (fan-held s)

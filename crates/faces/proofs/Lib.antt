@@ -4,3 +4,6 @@ pub mod Trails
 pub mod Rings
 pub mod Held
 pub mod Readable
+pub mod Retrace
+pub mod Exchanges
+pub mod Passage

@@ -1,5 +1,5 @@
 -- A ring as its loop stores it. Assumes nothing.
-use mathlib.Core.Path.{_≡_, sym, ap, ap₂, _∙_}
+use mathlib.Core.Path.{_≡_, sym, ap, _∙_}
 use Prim.Native.Nat.{ℕ, _+_, _*_, _<_}
 use native.Mathlib.Omega.{arith}
 use mathlib.Core.List.{List}
@@ -7,7 +7,7 @@ use lib.ListN.{length, getD, set, take}
 use lib.Seq.{sets, take-all}
 use Rattle.lists.specs.Lists.{part}
 use Rattle.lists.proofs.Places.{getD-map}
-use Rattle.lists.proofs.Stores.{copy-more, copy-at, getD-part}
+use Rattle.lists.proofs.Stores.{copy-more, getD-part}
 use Rattle.rules.specs.Mesh.{onward, backward, corner}
 use Rattle.rules.proofs.Sides.{on-below}
 use Rattle.rules.proofs.Refine.{back-below}
@@ -16,11 +16,6 @@ use Rattle.faces.specs.Rings.{inners, backs}
 -- one vertex more, and all of them
 pub store-more : (l vs : List ℕ) (n v : ℕ) → n < length vs → getD vs n 0 ≡ v → set (sets l 0 (take n vs)) n v ≡ sets l 0 (take (n + 1) vs)
 store-more l vs n v h e = ap (λ (x : ℕ). set (sets l 0 (take n vs)) n x) (sym e) ∙ copy-more l vs n 0 h
-
--- the same after a first one, which stands by itself
-pub store-after : (l vs : List ℕ) (n v : ℕ) → n < length vs → getD vs n 0 ≡ v → set (sets l 1 (take n vs)) (n + 1) v ≡ sets l 1 (take (n + 1) vs)
-store-after l vs n v h e =
-    ap₂ (λ (k x : ℕ). set (sets l 1 (take n vs)) k x) (let k : n + 1 ≡ 1 + n = omega arith in k) (sym e) ∙ copy-at l vs 1 n 0 h
 
 pub store-all : (l vs : List ℕ) (at n : ℕ) → n ≡ length vs → sets l at (take n vs) ≡ sets l at vs
 store-all l vs at n e = ap (sets l at) (take-all n vs (omega arith))

@@ -2,7 +2,7 @@
 use mathlib.Core.Path.{_≡_, refl, sym, ap, _∙_, subst}
 use mathlib.Core.Logic.{_≢_}
 use Prim.Native.Nat.{ℕ, zero, suc, _-_, _*_, _/_, _≤_, _<_}
-use native.Mathlib.Nat.{not-suc-le-zero, le-of-suc-le-suc}
+use native.Mathlib.Nat.{not-suc-le-zero}
 use native.Mathlib.Decide.{decLt}
 use native.Mathlib.Omega.{arith}
 use mathlib.Core.List.{List}
@@ -20,7 +20,6 @@ use Rattle.faces.specs.declared.Step.the-variants as step
 use Rattle.faces.specs.declared.Trip.the-variants as trip
 use Rattle.faces.specs.declared.Turn.the-variants as turn
 use Rattle.faces.proofs.Links.{next-below, prev-below, length-linksIn}
-use Rattle.faces.proofs.Trips.{first-passed}
 
 pub some-passed : (next : ℕ → mesh.Step) (n s : ℕ) → 0 < n → 0 < length (trail next n (here s))
 some-passed next zero s h = absurd (not-suc-le-zero h)
@@ -109,20 +108,6 @@ module _ (next : ℕ → mesh.Step) (n s : ℕ) where
     pub then-off : stepOf (next x) ≡ step.Off → suc k ≡ length (trail next n (here s))
     then-off q = goes-off k (next x) (rw e (goes f k h)) q
 
--- where it closes, nothing is off the rim
-module _ (next : ℕ → mesh.Step) (n s : ℕ) (f : stopOf (walk next n (here s)) ≡ closed) where
-  pub never-off : (k x : ℕ) → k < length (trail next n (here s)) → x ≡ getD (trail next n (here s)) k 0 → next x ≢ off
-  never-off k x h e q = go (decLt (suc k) (length (trail next n (here s))))
-    where
-      go : Dec (suc k < length (trail next n (here s))) → ⊥
-      go (yes l) = let a = sym (chain next n (here s) k l) ∙ ap next (sym e) ∙ q in let z : _≡_ {A = ℕ} 0 1 = cc in omega arith
-      go (no l) =
-          let r : length (trail next n (here s)) - 1 ≡ k = omega arith in
-          let b : lastOf 0 (trail next n (here s)) ≡ x = last-at 0 (trail next n (here s)) (omega arith) ∙ ap (λ (z : ℕ). getD (trail next n (here s)) z 0) r ∙ sym e in
-          let a = sym (rw (f, b) at (last-stop next n s 0)) ∙ q in
-          let z : _≡_ {A = ℕ} 0 1 = cc in
-          omega arith
-
 -- ---- the fan of a turn
 
 pub record IsInner (ls : List (Option ℕ)) (n s : ℕ) : Type 0 where
@@ -187,6 +172,3 @@ module _ (ls : List (Option ℕ)) (n s : ℕ) (size : length ls / 3 ≡ n) where
 -- what the walk of a ring asks, where the valence is in bounds
 pub inner-ends : (ls : List (Option ℕ)) (n s m : ℕ) → IsInner ls n s → valence (fan ls s) ≤ m → Ends (nextCorner ls s) n s m
 inner-ends ls n s m i h = record { stops = closed-long (i .closes); few = rw (i .is) at h }
-
-pub rim-ends : (ls : List (Option ℕ)) (n s e m : ℕ) → IsRim ls n s e → valence (fan ls s) ≤ suc m → Ends (prevCorner ls e) n e m
-rim-ends ls n s e m i h = record { stops = i .stops; few = le-of-suc-le-suc (rw (i .is) at h) }

@@ -1,10 +1,10 @@
 -- What the walks round a vertex answer, of the walks, fans and rings of crate `rules`. Assumes nothing.
-use Prim.Native.Nat.{ℕ, suc, _+_, _*_, _≤_, _<_}
+use Prim.Native.Nat.{ℕ, zero, suc, _+_, _*_, _≤_, _<_}
 use mathlib.Core.Path.{_≡_}
 use mathlib.Core.Logic.{_≢_}
-use mathlib.Core.Option.{some}
+use mathlib.Core.Option.{none, some}
 use mathlib.Core.Bool.{Bool, true, false}
-use mathlib.Core.List.{List, _∷_, map}
+use mathlib.Core.List.{List, [], _∷_, map}
 use lib.ListN.{length, getD}
 use Rattle.lists.specs.Lists.{lastOf}
 use Rattle.rules.specs.Mesh as mesh
@@ -29,11 +29,12 @@ pub record Walkable (w : List ℕ) (at n s : ℕ) : Type 0 where
 pub record Mated (w : List ℕ) (corners links n : ℕ) : Type 0 where
   pub from : (i t : ℕ) → i < 3 * n → linkOf (getD w (links + i) 0) ≡ some t → getD w (corners + t) 0 ≡ getD w (corners + onward i) 0
 
--- and what a ring asks: the corners of n faces stand from `corners` on, the walks end, and the ring fits
+-- and what a ring asks: the corners of n faces stand from `corners` on, links lead back, the walks end, and the ring fits
 pub record Ringable (w : List ℕ) (corners links n s : ℕ) : Type 0 where
   pub walkable : Walkable w links n s
   pub room : corners + 3 * n ≤ length w
   pub mated : Mated w corners links n
+  pub leads : (i t : ℕ) → getD (linksIn w links (3 * n)) i none ≡ some t → getD (linksIn w links (3 * n)) t none ≡ some i
   pub turns : fan (linksIn w links (3 * n)) s ≢ endless
   pub few : valence (fan (linksIn w links (3 * n)) s) ≤ 16
 
@@ -88,8 +89,10 @@ inners fs cs = map (λ s. corner fs (onward s)) cs
 abbrev pub backs : List ℕ → List ℕ → List ℕ
 backs fs cs = map (λ s. corner fs (backward s)) cs
 
-abbrev pub rimmed : List ℕ → ℕ → List ℕ → List ℕ
-rimmed fs e cs = corner fs (onward e) ∷ backs fs cs
+-- the entries j, j - 1, .., 0
+abbrev pub downFrom : List ℕ → ℕ → List ℕ
+downFrom cs zero = getD cs 0 0 ∷ []
+downFrom cs (suc j) = getD cs (suc j) 0 ∷ downFrom cs j
 
 -- how many are in a ring, and of which kind
 abbrev pub ringOf : List ℕ → Fan → Ring
