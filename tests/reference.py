@@ -214,7 +214,7 @@ def refining(v, inner, ring):
 
 
 def at_limit(v, inner, ring):
-    return rule(v, inner_limit(len(ring)), ring) if inner else rule(v, Fraction(1, 5), [ring[0], ring[-1]])
+    return rule(v, inner_limit(len(ring)), ring) if inner else rule(v, Fraction(1, 6), [ring[0], ring[-1]])
 
 
 def far_corner(face, ends):

@@ -75,7 +75,7 @@ leftAt o l fs xs = written o (positions whole (last whole l fs xs)) (blank .posi
 abbrev indicesAt : Outcome → ℕ → List ℕ → List ℤ → List ℕ
 indicesAt o l fs xs = written o (last whole l fs xs .mesh .faces) (blank .indices)
 
-T-0-first : firstOf (leftAt (counts 3 1 3) 0 T-faces T-points) ≡ 2
+T-0-first : firstOf (leftAt (counts 3 1 3) 0 T-faces T-points) ≡ 1
 unfolding nearest links fan refined cage moved newPositions limits finer levels positions shapeRefusal rangeRefusal listRefusal fanRefusal sizeRefusal refusal outcome
 T-0-first = refl
 
@@ -118,7 +118,7 @@ one-fixed-answer r left c d =
 pub one-fixed-plate : (r q : Outcome) (left : Buffers ℤ) (other : Buffers ℤ) → Leaves 0 T-faces T-points r left → Leaves 0 T-faces (anywhere 3) q other
     → left .positions ≢ other .positions
 one-fixed-plate r q left other c d e =
-    let a : firstOf (left .positions) ≡ 2 = ap firstOf (c .positions) ∙ ap (λ (o : Outcome). firstOf (leftAt o 0 T-faces T-points)) (c .answer ∙ T-0) ∙ T-0-first in
+    let a : firstOf (left .positions) ≡ 1 = ap firstOf (c .positions) ∙ ap (λ (o : Outcome). firstOf (leftAt o 0 T-faces T-points)) (c .answer ∙ T-0) ∙ T-0-first in
     let b : firstOf (other .positions) ≡ 0 = ap firstOf (d .positions) ∙ ap (λ (o : Outcome). firstOf (leftAt o 0 T-faces (anywhere 3))) (d .answer ∙ flat-0) ∙ flat-0-first in
     omega (arith, ap firstOf e)
 
@@ -126,7 +126,7 @@ one-fixed-plate r q left other c d e =
 
 pub control-points-back : (r : Outcome) (left : Buffers ℤ) → Leaves 0 T-faces T-points r left → take 9 (left .positions) ≢ T-points
 control-points-back r left c e =
-    let a : firstOf (left .positions) ≡ 2 = ap firstOf (c .positions) ∙ ap (λ (o : Outcome). firstOf (leftAt o 0 T-faces T-points)) (c .answer ∙ T-0) ∙ T-0-first in
+    let a : firstOf (left .positions) ≡ 1 = ap firstOf (c .positions) ∙ ap (λ (o : Outcome). firstOf (leftAt o 0 T-faces T-points)) (c .answer ∙ T-0) ∙ T-0-first in
     let b : firstOf (take 9 (left .positions)) ≡ firstOf (left .positions) = ap natAbs (getD-take 9 (left .positions) 0 (pos 0) (omega arith)) in
     omega (arith, ap firstOf e)
 
@@ -143,7 +143,7 @@ touching-none r left c =
     let q = c .answer ∙ T-0 in
     record {
       positions = λ e.
-          let a : firstOf (left .positions) ≡ 2 = ap firstOf (c .positions) ∙ ap (λ (o : Outcome). firstOf (leftAt o 0 T-faces T-points)) q ∙ T-0-first in
+          let a : firstOf (left .positions) ≡ 1 = ap firstOf (c .positions) ∙ ap (λ (o : Outcome). firstOf (leftAt o 0 T-faces T-points)) q ∙ T-0-first in
           omega (arith, ap firstOf e);
       indices = λ e.
           let a : secondOf (left .indices) ≡ 1 = ap secondOf (c .indices) ∙ ap (λ (o : Outcome). secondOf (indicesAt o 0 T-faces T-points)) q ∙ T-0-second in

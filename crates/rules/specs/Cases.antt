@@ -63,8 +63,8 @@ Hold t = map (λ c. c .got) t ≡ map (λ c. c .wanted) t
 pub all-hold : Hold (
     -- the empty cage
     case (numbers 0 [] []) (zs (0 ∷ 0 ∷ 0 ∷ 0 ∷ 0 ∷ [])) ∷
-    -- T at level 0
-    case (limitsOf 0 T-faces T-points) (zs (2 ∷ 2 ∷ 0 ∷ 5 ∷ 2 ∷ 0 ∷ 2 ∷ 5 ∷ 0 ∷ [])) ∷
+    -- "T at level 0 becomes (1,1,0), (5,1,0), (1,5,0)"
+    case (limitsOf 0 T-faces T-points) (zs (1 ∷ 1 ∷ 0 ∷ 5 ∷ 1 ∷ 0 ∷ 1 ∷ 5 ∷ 0 ∷ [])) ∷
     -- H at level 0, and level 1 before the limit
     case (vertex 0 (limitsOf 0 H-faces H-points)) (zs (3 ∷ 3 ∷ 3 ∷ [])) ∷
     case (vertex 1 (limitsOf 0 H-faces H-points)) (zs (6 ∷ 3 ∷ 3 ∷ [])) ∷
@@ -82,7 +82,7 @@ pub all-hold : Hold (
     case (numbers 0 (0 ∷ 1 ∷ 2 ∷ 1 ∷ 2 ∷ 3 ∷ []) (anywhere 4)) (zs (7 ∷ 3 ∷ 0 ∷ 0 ∷ 0 ∷ [])) ∷
     case (numbers 0 (0 ∷ 1 ∷ 2 ∷ 0 ∷ 3 ∷ 4 ∷ []) (anywhere 5)) (zs (10 ∷ 0 ∷ 0 ∷ 0 ∷ 0 ∷ [])) ∷
     case (numbers 0 T-faces (anywhere 4)) (zs (9 ∷ 3 ∷ 0 ∷ 0 ∷ 0 ∷ [])) ∷
-    -- T at level 1
+    -- T at level 1, "worked out again from the rule"
     case (numbers 1 T-faces T-points) (zs (0 ∷ 0 ∷ 6 ∷ 4 ∷ 6 ∷ [])) ∷
     case (limitsOf 1 T-faces T-points) (zs (1 ∷ 1 ∷ 0 ∷ 5 ∷ 1 ∷ 0 ∷ 1 ∷ 5 ∷ 0 ∷ 4 ∷ 0 ∷ 0 ∷ 4 ∷ 4 ∷ 0 ∷ 0 ∷ 4 ∷ 0 ∷ [])) ∷
     case (facesOf 1 T-faces T-points) (zs (0 ∷ 3 ∷ 5 ∷ 3 ∷ 1 ∷ 4 ∷ 5 ∷ 4 ∷ 2 ∷ 3 ∷ 4 ∷ 5 ∷ [])) ∷

@@ -28,11 +28,12 @@ each (ringRule limit n) = 1
 each (rimRule refining) = 1
 each (rimRule limit) = 1
 
+-- at the limit on the rim that of the cubic B-spline curve which the rim is refined to: "own weight 2/3 and 1/6 on each side". The f32 engine's 1/5 is the Rust's, and stands in `weight`
 abbrev pub outOf : Rule → ℕ
 outOf (ringRule refining n) = pick (eqb n 3) 16 (8 * n)
 outOf (ringRule limit n) = pick (eqb n 3) 5 (2 * n)
 outOf (rimRule refining) = 8
-outOf (rimRule limit) = 5
+outOf (rimRule limit) = 6
 
 -- the own weight beside n times b, out of the same
 abbrev pub own : Rule → ℕ → ℕ

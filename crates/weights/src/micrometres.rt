@@ -54,7 +54,7 @@ impl Share {
         ensures { λ r. ⌜ r ≡ shareOf (ruleOf limit rim n) (weighings rim n) ⌝ }
     {
         if rim {
-            Share::of(2, 1, 5)
+            Share::of(2, 1, 6)
         } else if n == 3 {
             Share::of(3, 1, 5)
         } else {
