@@ -1,6 +1,6 @@
 -- Laws of places, searches, pieces and ranks. Assumes nothing.
 use mathlib.Core.Path.{_≡_, refl, sym, ap, ap₂, _∙_}
-use Prim.Native.Nat.{ℕ, zero, suc, _+_, _-_, _*_, _≤_, _<_, zero-le, suc-le-suc}
+use Prim.Native.Nat.{ℕ, zero, suc, _+_, _-_, _*_, _≤_, _<_, min, max, zero-le, suc-le-suc}
 use native.Mathlib.Nat.{add-zero, zero-add, add-suc, le-of-suc-le-suc, not-suc-le-zero, mul-zero, mul-suc}
 use native.Mathlib.Numerals.{add-one}
 use native.Mathlib.Omega.{arith}
@@ -8,7 +8,7 @@ use native.Mathlib.Decide.{decLt}
 use mathlib.Core.Bool.{Bool, true, false, not}
 use mathlib.Core.List.{List, [], _∷_, _++_, map, map-append, append-assoc}
 use mathlib.Core.Option.{Option, none, some}
-use lib.Dec.{T, T-not}
+use lib.Dec.{T, T-not, leb, leb→le, nleb→lt}
 use lib.ListN.{length, getD, length-append, List·getD-append}
 use lib.Seq.{getD-append-add}
 use Rattle.lists.specs.Lists.{pick, bit, count, later, find, lowest, found, keep, tally, gather, lastOf}
@@ -164,6 +164,31 @@ last-cons d x (y ∷ ys) = last-cons x y ys
 pub last-at : (d : ℕ) (cs : List ℕ) → 0 < length cs → lastOf d cs ≡ getD cs (length cs - 1) 0
 last-at d [] h = absurd (not-suc-le-zero h)
 last-at d (x ∷ cs) h = let e : suc (length cs) - 1 ≡ length cs = omega arith in rw e (last-cons d x cs)
+
+pub last-map : (f : ℕ → ℕ) (d e : ℕ) (cs : List ℕ) → 0 < length cs → lastOf d (map f cs) ≡ f (lastOf e cs)
+last-map f d e [] h = absurd (not-suc-le-zero h)
+last-map f d e (x ∷ cs) h = go x cs
+  where
+    go : (y : ℕ) (l : List ℕ) → lastOf (f y) (map f l) ≡ f (lastOf y l)
+    go y [] = refl
+    go y (z ∷ l) = go z l
+
+-- ---- two numbers, the lower first
+
+pub either-way : (f : ℕ → ℕ) (a b : ℕ) → f (min a b) + f (max a b) ≡ f a + f b
+either-way f a b = go (leb a b) refl
+  where
+    go : (t : Bool) → leb a b ≡ t → f (min a b) + f (max a b) ≡ f a + f b
+    go true e =
+        let l : a ≤ b = leb→le a b (rw e tt) in
+        let x : min a b ≡ a = omega arith in
+        let y : max a b ≡ b = omega arith in
+        rw (x, y)
+    go false e =
+        let l : b < a = nleb→lt a b (rw e tt) in
+        let x : min a b ≡ b = omega arith in
+        let y : max a b ≡ a = omega arith in
+        rw (x, y) (omega arith)
 
 -- ---- a list mapped twice
 

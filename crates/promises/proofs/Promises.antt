@@ -144,14 +144,16 @@ module _ (l : ℕ) (fs : List ℕ) (xs : List ℤ) (b : Lent (Buffers ℤ)) (c :
   pub whole-faces : take (3 * c .faces) (b .new .indices) ≡ last whole l fs xs .mesh .faces
   whole-faces = faces-stand whole wholeRoom l fs xs b c call (whole-rooms .indices)
 
+  -- and so do its positions
+  pub whole-position : (v k : ℕ) → v < c .vertices → k < 3 → getD (b .new .positions) (3 * v + k) (pos 0) ≡ coord whole (positions whole (last whole l fs xs)) k v
+  whole-position v k h j =
+      let ps = positions whole (last whole l fs xs) in
+      ap (λ (x : List ℤ). getD x (3 * v + k) (pos 0)) (call .positions)
+      ∙ stands ps (b .old .positions) (3 * c .vertices) (3 * v + k) (pos 0) (positions-long whole wholeRoom l fs xs b c call) (whole-rooms .positions) (omega arith)
+
   -- demand 3: coordinate k of vertex v, as it stands in the buffer, is within (l + 1) / 2 of the exact limit position at l levels
   pub demand-3-of-the-call : (v k : ℕ) → v < c .vertices → k < 3 → Within (l + 1) (getD (b .new .positions) (3 * v + k) (pos 0)) (coord exact (exactLimits l fs xs) k v)
-  demand-3-of-the-call v k h j =
-      let ps = positions whole (last whole l fs xs) in
-      let e : getD (b .new .positions) (3 * v + k) (pos 0) ≡ getD ps (3 * v + k) (pos 0) =
-      ap (λ (x : List ℤ). getD x (3 * v + k) (pos 0)) (call .positions)
-      ∙ stands ps (b .old .positions) (3 * c .vertices) (3 * v + k) (pos 0) (positions-long whole wholeRoom l fs xs b c call) (whole-rooms .positions) (omega arith) in
-      rw e (demand-3 l fs xs k v)
+  demand-3-of-the-call v k h j = rw (whole-position v k h j) (demand-3 l fs xs k v)
 
 -- ---- the f32 call: as the whole one, with one more buffer
 

@@ -20,3 +20,4 @@ pub mod Growth
 pub mod Related
 pub mod Bound
 pub mod Range
+pub mod Settled
