@@ -9,8 +9,8 @@
 #include <sys/mman.h>
 #include "plates.h"
 
-enum { WHOLE, SINGLE, SHEET, CALLS, THREADS = 4, PAGE = 65536 };
-static const char *const CALL[CALLS] = {"whole", "f32", "sheet"};
+enum { WHOLE, SINGLE, SHEET, SHEETS, CALLS, THREADS = 4, PAGE = 65536 };
+static const char *const CALL[CALLS] = {"whole", "f32", "sheet", "sheets"};
 
 static int passed, failed;
 
@@ -89,9 +89,16 @@ static void *run(void *given) {
     else if (t->kind == SINGLE)
         plates_loop_subdivide(c->levels, c->indices, c->corners, t->floats, c->numbers, (float *)l->positions, l->lent[0], (float *)l->normals, l->lent[1], l->out,
                               l->lent[2], l->words, l->lent[3], (float *)l->work, l->lent[4], l->told);
-    else
+    else if (t->kind == SHEET)
         plates_subdivide_sheet(t->sheet, t->bytes, (int32_t *)l->positions, l->lent[0], l->out, l->lent[2], l->words, l->lent[3], (int32_t *)l->work, l->lent[4],
                                l->told);
+    else {
+        uint32_t length = (uint32_t)t->bytes;
+        uint32_t number = plates_subdivide_sheets(t->sheet, t->bytes, &length, 1, (int32_t *)l->positions, l->lent[0], l->out, l->lent[2], l->words, l->lent[3],
+                                                  (int32_t *)l->work, l->lent[4], l->told, 5);
+        if (number != PLATES_DONE)
+            l->told[0] = number;
+    }
     return NULL;
 }
 
@@ -252,7 +259,7 @@ static void small_threads(void) {
     for (size_t i = 0; i < made; i++)
         for (int kind = 0; kind < CALLS; kind++) {
             Task *t = task(kind, cages[i], lent);
-            end(begin(t, kind == SHEET ? PLATES_STACK_SHEET : PLATES_STACK));
+            end(begin(t, kind == SHEET || kind == SHEETS ? PLATES_STACK_SHEET : PLATES_STACK));
             expect(cages[i]->name, CALL[kind], said(t));
             free(t);
         }
@@ -314,6 +321,8 @@ static void nulls(void) {
     expect("NULL for all", "sheet", tells(told, PLATES_NOT_A_SHEET, 0));
     plates_write_sheet(7, NULL, 0, NULL, 0, NULL, 0, told);
     expect("NULL for all", "writer", told[0] == PLATES_NO_ROOM_FOR_SHEET && !told[1] && !told[2]);
+    expect("NULL for all", "sheets", plates_subdivide_sheets(NULL, 0, NULL, 0, NULL, 0, NULL, 0, NULL, 0, NULL, 0, NULL, 0) == PLATES_DONE);
+    expect("NULL for all but a byte", "sheets", plates_subdivide_sheets((const uint8_t *)told, 1, NULL, 0, NULL, 0, NULL, 0, NULL, 0, NULL, 0, NULL, 0) == PLATES_BAD_BATCH);
     plates_loop_subdivide_whole(8, NULL, 0, NULL, 0, NULL, 0, NULL, 0, NULL, 0, NULL, 0, told);
     expect("NULL, and 8 levels", "whole", tells(told, PLATES_TOO_MANY_LEVELS, 0));
     plates_loop_subdivide_whole(0, &corner, 1, NULL, 0, NULL, 0, NULL, 0, NULL, 0, NULL, 0, told);

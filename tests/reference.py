@@ -1,5 +1,5 @@
 #!/usr/bin/env python3
-"""An independent reference of both engines, the checks, the sheets, their writer, `platecut` and `makesheet`, from docs/RULES.md alone.
+"""An independent reference of both engines, the checks, the sheets, their writer, batches of sheets, `platecut`, `makesheet` and `fontcut`, from docs/RULES.md alone.
 
 It shares no code with the Rattle crates or the oracle, searches where they keep links, and works in Python's own whole numbers and
 fractions. `python3 tests/reference.py < sheet` prints what `platecut` prints.
@@ -455,6 +455,13 @@ def makesheet(given):
         return b"", f"{refusal}\n".encode()
 
 
+def listed(answer):
+    lines = ["mesh {} {} {}".format(*answer.counts)]
+    lines += ["v {} {} {}".format(*p) for p in triples(answer.positions)]
+    lines += ["f {} {} {}".format(*f) for f in triples(answer.indices)]
+    return "".join(line + "\n" for line in lines)
+
+
 def platecut(sheet):
     """What `platecut` prints."""
     try:
@@ -464,10 +471,54 @@ def platecut(sheet):
         answer = loop_subdivide_whole(levels, indices, coords, needed(512, 512, WHOLE))
     except Refused as refusal:
         return f"{refusal}\n"
-    lines = ["mesh {} {} {}".format(*answer.counts)]
-    lines += ["v {} {} {}".format(*p) for p in triples(answer.positions)]
-    lines += ["f {} {} {}".format(*f) for f in triples(answer.indices)]
-    return "".join(line + "\n" for line in lines)
+    return listed(answer)
+
+
+# ---- a whole alphabet
+
+Batch = namedtuple("Batch", "answers positions indices words work")
+
+
+def subdivide_sheets(sheets, lengths, room, entries):
+    """One answer of five numbers for each sheet, all outputs one after the other, and how many entries of the work buffers are zero afterwards; or refusal 19."""
+    if len(lengths) > 64 or sum(lengths) != len(sheets) or entries < 5 * len(lengths):
+        raise Refused(19)
+    batch, at = Batch([], [], [], 0, 0), 0
+    for length in lengths:
+        sheet, at = sheets[at:at + length], at + length
+        free = {**room, 0: room[0] - len(batch.positions), 2: room[2] - len(batch.indices)}
+        try:
+            plate = loop_subdivide_whole(*read_sheet(sheet), free)
+        except Refused as r:
+            batch.answers.append((r.number, r.place, 0, 0, 0))
+            continue
+        vertices, faces, _ = plate.counts
+        needs = needed(faces, vertices, WHOLE)
+        batch = Batch(batch.answers + [(0, 0, *plate.counts)], batch.positions + plate.positions, batch.indices + plate.indices,
+                      max(batch.words, needs[3]), max(batch.work, needs[4]))
+    return batch
+
+
+def fontcut(given):
+    """What `fontcut` prints."""
+    try:
+        if len(given) > 262144:
+            raise Refused(16)
+        count = int.from_bytes(given[:4], "little") if len(given) >= 4 else 65
+        if count > 64 or len(given) < 4 + 4 * count:
+            raise Refused(19)
+        lengths = struct.unpack_from(f"<{count}I", given, 4)
+        batch = subdivide_sheets(given[4 + 4 * count:], lengths, needed(4096, 4096, WHOLE), 320)
+    except Refused as refusal:
+        return f"{refusal}\n"
+    text, p, q = [], 0, 0
+    for number, place, vertices, faces, rims in batch.answers:
+        if number:
+            text.append(f"{Refused(number, place)}\n")
+        else:
+            text.append(listed(Answer((vertices, faces, rims), batch.indices[q:q + 3 * faces], batch.positions[p:p + 3 * vertices], None)))
+        p, q = p + 3 * vertices, q + 3 * faces
+    return "".join(text)
 
 
 if __name__ == "__main__":

@@ -12,7 +12,7 @@
    (docs/HANDBOOK.md), and the rest is 0.
 
    Any number of threads may call at once, each with buffers of its own; a cage may be shared. A call on lists takes less than PLATES_STACK bytes of its
-   thread's stack, the call on a sheet less than PLATES_STACK_SHEET. */
+   thread's stack, a call on sheets less than PLATES_STACK_SHEET. */
 #ifndef PLATES_H
 #define PLATES_H
 
@@ -24,10 +24,10 @@ extern "C" {
 #endif
 
 /* Counts up when something in this file changes, or what a call answers. */
-#define PLATES_VERSION 4
+#define PLATES_VERSION 5
 
 /* The stack that a call may take, in bytes: give a thread as much, and what its own functions take besides. Where a system gives a thread 128 KB, the calls on lists run in it;
-   the call on a sheet holds the sheet's lists too. */
+   a call on sheets holds a sheet's lists too. */
 #define PLATES_STACK 114688       /* 112 KB */
 #define PLATES_STACK_SHEET 212992 /* 208 KB */
 
@@ -41,7 +41,7 @@ extern "C" {
 #define PLATES_ROOM_WORDS (24 * PLATES_MOST)    /* 786,432, as 16F+8V */
 #define PLATES_ROOM_WORK (6 * PLATES_MOST)      /* 196,608 */
 
-/* What told[0] says. docs/HANDBOOK.md has a section on each, with what the place counts and what to do. (16 is platecut's alone: its input is too long.) */
+/* What told[0] says. docs/HANDBOOK.md has a section on each, with what the place counts and what to do. (16 is the programs' alone: the input is too long.) */
 enum plates_refusal {
     PLATES_DONE = 0,
     PLATES_TOO_MANY_LEVELS = 1,
@@ -59,7 +59,8 @@ enum plates_refusal {
     PLATES_LAST_LEVEL_TOO_LARGE = 13,
     PLATES_BUFFER_SHORT = 14,
     PLATES_NOT_A_SHEET = 15,
-    PLATES_NO_ROOM_FOR_SHEET = 17
+    PLATES_NO_ROOM_FOR_SHEET = 17,
+    PLATES_BAD_BATCH = 19 /* the number that plates_subdivide_sheets returns */
 };
 
 /* Whole micrometres, -1,000,000,000 to 1,000,000,000. */
@@ -100,6 +101,18 @@ void plates_write_sheet(uint32_t levels,
                         const int32_t *coords, size_t coords_length,
                         uint8_t *bytes, size_t bytes_length,
                         uint32_t told[3]);
+
+/* Up to 64 sheets laid end to end in `bytes`, each as long as `lengths` says, in bytes. Returns PLATES_BAD_BATCH, and writes nothing, if there are more than 64, if the lengths
+   do not add up to bytes_length, or if answers has fewer than five entries for each sheet. Else it returns 0, and entries 5k to 5k+4 of answers are what told would be of sheet k
+   by itself with the room still free: outputs stand one after the other in positions and out, a refused sheet takes no room, and words and work serve each sheet in turn. Indices
+   count from 0 in each sheet. Entries of answers past the last sheet's are unchanged. */
+uint32_t plates_subdivide_sheets(const uint8_t *bytes, size_t bytes_length,
+                                 const uint32_t *lengths, size_t lengths_length,
+                                 int32_t *positions, size_t positions_length,
+                                 uint32_t *out, size_t out_length,
+                                 uint32_t *words, size_t words_length,
+                                 int32_t *work, size_t work_length,
+                                 uint32_t *answers, size_t answers_length);
 
 #ifdef __cplusplus
 }

@@ -25,6 +25,7 @@ static const char *name(uint32_t refusal) {
     case PLATES_BUFFER_SHORT: return "a lent buffer is short";
     case PLATES_NOT_A_SHEET: return "not a sheet";
     case PLATES_NO_ROOM_FOR_SHEET: return "no room for the sheet";
+    case PLATES_BAD_BATCH: return "the batch does not add up";
     default: return "no refusal";
     }
 }

@@ -33,6 +33,15 @@ extern "C" {
         bytes: *mut u8, bytes_len: usize,
         told: *mut u32,
     );
+    fn plates_subdivide_sheets(
+        bytes: *const u8, bytes_len: usize,
+        lengths: *const u32, lengths_len: usize,
+        positions: *mut i32, positions_len: usize,
+        out: *mut u32, out_len: usize,
+        words: *mut u32, words_len: usize,
+        work: *mut i32, work_len: usize,
+        answers: *mut u32, answers_len: usize,
+    ) -> u32;
 }
 
 /// No level has more faces or vertices than this, so room for as many is room for every answer.
@@ -97,6 +106,45 @@ pub fn write_sheet(levels: u32, indices: &[u32], coords: &[i32]) -> Result<Vec<u
     Ok(bytes)
 }
 
+/// A font's sheets in one call: 19 for all of them, or a mesh or a refusal for each. There is room for the largest mesh in all; a sheet that no longer fits is refused 14.
+pub fn subdivide_sheets(sheets: &[&[u8]]) -> Result<Vec<Result<Mesh, Refusal>>, Refusal> {
+    let lengths: Vec<u32> = sheets.iter().map(|s| u32::try_from(s.len()).unwrap_or(u32::MAX)).collect();
+    let bytes = sheets.concat();
+    let mut positions = vec![0i32; 3 * MOST];
+    let mut out = vec![0u32; 3 * MOST];
+    let mut words = vec![0u32; 24 * MOST];
+    let mut work = vec![0i32; 6 * MOST];
+    let mut answers = vec![0u32; 5 * sheets.len()];
+    // SAFETY: as above.
+    let number = unsafe {
+        plates_subdivide_sheets(
+            bytes.as_ptr(), bytes.len(),
+            lengths.as_ptr(), lengths.len(),
+            positions.as_mut_ptr(), positions.len(),
+            out.as_mut_ptr(), out.len(),
+            words.as_mut_ptr(), words.len(),
+            work.as_mut_ptr(), work.len(),
+            answers.as_mut_ptr(), answers.len(),
+        )
+    };
+    if number != 0 {
+        return Err(Refusal { number, place: 0 });
+    }
+    let (mut p, mut q) = (0, 0);
+    Ok(answers
+        .chunks_exact(5)
+        .map(|a| {
+            if a[0] != 0 {
+                return Err(Refusal { number: a[0], place: a[1] });
+            }
+            let (from, start) = (p, q);
+            p += 3 * a[2] as usize;
+            q += 3 * a[3] as usize;
+            Ok(Mesh { positions: threes(&positions[from..p]), faces: threes(&out[start..q]), rim_sides: a[4] })
+        })
+        .collect())
+}
+
 fn main() {
     let triangle = [0, 0, 0, 8, 0, 0, 0, 8, 0];
     match loop_subdivide_whole(1, &[0, 1, 2], &triangle) {
@@ -116,6 +164,16 @@ fn main() {
     for (levels, indices) in [(1, vec![0, 1, 2]), (0, vec![0, 1, 3])] {
         match write_sheet(levels, &indices, &triangle) {
             Ok(sheet) => println!("sheet {}", sheet.iter().map(|b| format!("{b:02x}")).collect::<String>()),
+            Err(r) => println!("refused {} at {}", r.number, r.place),
+        }
+    }
+    let sheet = write_sheet(1, &[0, 1, 2], &triangle).expect("T has a sheet");
+    for batch in [vec![&sheet[..], &sheet[1..], &sheet[..]], vec![&sheet[..]; 65]] {
+        match subdivide_sheets(&batch) {
+            Ok(answers) => answers.iter().for_each(|a| match a {
+                Ok(mesh) => println!("mesh {} {} {}, the last vertex at {:?}", mesh.positions.len(), mesh.faces.len(), mesh.rim_sides, mesh.positions[5]),
+                Err(r) => println!("refused {} at {}", r.number, r.place),
+            }),
             Err(r) => println!("refused {} at {}", r.number, r.place),
         }
     }

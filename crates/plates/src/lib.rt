@@ -1,7 +1,8 @@
-// For C (plates.h): the public calls over numbers and slices, with numbers for the answer: document 01's five, and the writer's three. Each promises all that the call below it does.
+// For C (plates.h): the public calls over numbers and slices, with numbers for the answer: document 01's five, the writer's three, and one for a batch. Each promises all that the call below it does.
 ghost use mathlib.Core.Path.{_≡_};
 ghost use Rattle.rules.specs.Calls.{given, lent, buffers, WholeCall, SingleCall, SheetCall, Told};
 ghost use Rattle.writer.specs.Writing.{writtenAnswer, WriteTold};
+ghost use Rattle.alphabet.specs.Sheets.{SheetsCall};
 use writer::Written;
 
 #[no_mangle]
@@ -98,4 +99,20 @@ pub extern "C" fn plates_write_sheet(
     ensures { λ r. ⌜ WriteTold levels (given indices) (given coords) (lent bytes) (now (told .exit)) ⌝ }
 {
     tell_written(writer::write_sheet(levels, indices, coords, bytes), told);
+}
+
+// Up to 64 sheets laid end to end, five numbers for each.
+#[no_mangle]
+pub extern "C" fn plates_subdivide_sheets(
+    bytes: &[u8],
+    lengths: &[u32],
+    positions: &mut [i32],
+    out: &mut [u32],
+    words: &mut [u32],
+    work: &mut [i32],
+    answers: &mut [u32],
+) -> u32
+    ensures { λ r. ⌜ SheetsCall (given bytes) (given lengths) (buffers positions out words work) (lent answers) r ⌝ }
+{
+    alphabet::subdivide_sheets(bytes, lengths, positions, out, words, work, answers)
 }
