@@ -1,3 +1,4 @@
 pub mod Faces
 pub mod Words
 pub mod Rings
+pub mod Marks
