@@ -4,4 +4,3 @@ pub mod Across
 pub mod Rounds
 pub mod Sizes
 pub mod Stages
-pub mod SharpList

@@ -6,5 +6,4 @@ pub mod Held
 pub mod Readable
 pub mod Retrace
 pub mod Exchanges
-pub mod Creases
 pub mod Passage

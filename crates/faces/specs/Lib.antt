@@ -1,4 +1,3 @@
 pub mod Faces
 pub mod Words
 pub mod Rings
-pub mod Marks

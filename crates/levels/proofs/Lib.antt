@@ -5,6 +5,3 @@ pub mod Starts
 pub mod Growth
 pub mod Standing
 pub mod Moves
-pub mod Marks
-pub mod Creases
-pub mod Marking

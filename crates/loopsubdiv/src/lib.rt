@@ -4,12 +4,10 @@ ghost use mathlib.Core.Path.{_≡_};
 ghost use Prim.Native.Nat.{_+_, _*_};
 ghost use Rattle.rules.specs.Position.{whole, single};
 ghost use Rattle.rules.specs.Answers.{outcome, wholeRooms, singleRooms};
-ghost use Rattle.rules.specs.Sharp.{sharpOutcome};
-ghost use Rattle.rules.specs.Calls.{given, lent, buffers, SharpCall, SingleCall};
+ghost use Rattle.rules.specs.Calls.{given, lent, buffers, WholeCall, SingleCall};
 use rules::Counts;
 use rules::Outcome;
 
-pub mod creased;
 pub mod micrometres;
 pub mod points;
 pub mod room;
@@ -18,38 +16,35 @@ fn judge_whole(
     levels: u32,
     indices: &[u32],
     coords: &[i32],
-    sharp: &[u32],
     positions: usize,
     out: usize,
     words: usize,
     work: usize,
 ) -> Outcome
-    ensures { λ r. ⌜ r ≡ sharpOutcome whole (wholeRooms positions out words work) levels (now (sharp .entry)) (now (indices .entry)) (now (coords .entry)) ⌝ }
+    ensures { λ r. ⌜ r ≡ outcome whole (wholeRooms positions out words work) levels (now (indices .entry)) (now (coords .entry)) ⌝ }
 {
-    match cage::judge_sharp(levels, indices, coords, sharp) {
+    match cage::judge_whole(levels, indices, coords) {
         Outcome::Refused(x) => Outcome::Refused(x),
         Outcome::Success(c) => room::whole_room(c, positions, out, words, work),
     }
 }
 
-// Whole micrometres, with the edges of the listed sides (3 face + side) sharp. Lent at the final F and V: positions 3V, out 3F, words 16F+8V, work 6V.
+// Whole micrometres. Lent at the final F and V: positions 3V, out 3F, words 16F+8V, work 6V.
 pub fn loop_subdivide_whole(
     levels: u32,
     indices: &[u32],
     coords: &[i32],
-    sharp: &[u32],
     positions: &mut [i32],
     out: &mut [u32],
     words: &mut [u32],
     work: &mut [i32],
 ) -> Outcome
-    ensures { λ r. ⌜ SharpCall levels (given sharp) (given indices) (given coords) (buffers positions out words work) r ⌝ }
+    ensures { λ r. ⌜ WholeCall levels (given indices) (given coords) (buffers positions out words work) r ⌝ }
 {
     let o = judge_whole(
         levels,
         indices,
         coords,
-        sharp,
         positions.len(),
         out.len(),
         words.len(),
@@ -60,18 +55,7 @@ pub fn loop_subdivide_whole(
         Outcome::Success(c) => {
             let nf = c.faces as usize;
             let nv = c.vertices as usize;
-            creased::act(
-                levels,
-                indices,
-                coords,
-                sharp,
-                nf,
-                nv,
-                positions,
-                out,
-                words,
-                work,
-            );
+            micrometres::run(levels, indices, coords, nf, nv, positions, out, words, work);
             o
         }
     }

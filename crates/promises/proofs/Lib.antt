@@ -1,3 +1,2 @@
 pub mod Promises
 pub mod Together
-pub mod Marks

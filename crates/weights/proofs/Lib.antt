@@ -3,4 +3,3 @@ pub mod Means
 pub mod Joins
 pub mod Gathered
 pub mod Cases
-pub mod Creased

@@ -8,15 +8,12 @@ use whole::raised_at;
 use whole::rounded;
 ghost use mathlib.Core.Path.{_≡_};
 ghost use Prim.Native.Nat.{_+_, _*_, _<_, _≤_};
-ghost use mathlib.Core.Bool.{true};
-ghost use mathlib.Core.List.{[], _∷_};
 ghost use lib.ListN.{length};
 ghost use lib.Seq.{sets};
 ghost use Rattle.rules.specs.Position.{refining, limit, whole};
 ghost use Rattle.rules.specs.Levels.{ends, coord, three};
 ghost use Rattle.weights.specs.Weights.{staged, ruleOf};
 ghost use Rattle.weights.specs.Lent.{weighing, weighings, byRing, halfway, eighthway, onRim, within, Readable, AllReadable, Stands, Stands3, sumOf, sharing, shareOf, Fits, lowered, Raised3};
-ghost use Rattle.weights.specs.Creased.{staying, byCount, Creasable};
 ghost use Rattle.whole.specs.Whole.{reach, nearest, raise, lower as lowerBy};
 
 // The weights of a vertex rule out of one whole: the vertex's own, and that of each in its ring, or of its first and its last.
@@ -167,53 +164,6 @@ pub fn vertex(xs: &[i32], v: VertNo, ring: &[u32], rim: bool, stage: Stage) -> W
         y: weighted(at(xs, v, 1), s.y, w),
         z: weighted(at(xs, v, 2), s.z, w),
     }
-}
-
-// Two sharp or rim edges: the rim's weights, with their far ends.
-fn crease(xs: &[i32], v: VertNo, a: u32, b: u32, stage: Stage) -> Whole3
-    requires { ⌜ Readable (now xs) (v .0) × (Readable (now xs) a × Readable (now xs) b) ⌝ }
-    ensures point { λ r. ⌜ lowered r ≡ three whole (byRing whole (staged stage) (now (xs .entry)) (v .0) true (a ∷ b ∷ [])) ⌝ }
-    ensures near { λ r. ⌜ Raised3 r ⌝ }
-{
-    let pair: [u32; 2] = [a, b];
-    vertex(xs, v, &pair, true, stage)
-}
-
-// Three or more: the vertex stays.
-fn stay(xs: &[i32], v: VertNo) -> Whole3
-    requires { ⌜ Readable (now xs) (v .0) ⌝ }
-    ensures point { λ r. ⌜ lowered r ≡ three whole (staying whole (now (xs .entry)) (v .0)) ⌝ }
-    ensures near { λ r. ⌜ Raised3 r ⌝ }
-{
-    Whole3 {
-        x: at(xs, v, 0),
-        y: at(xs, v, 1),
-        z: at(xs, v, 2),
-    }
-}
-
-// Vertex v by the rule of the stage, from its ring and its k sharp and rim edges, of which the first two lead to a and b.
-pub fn creased(
-    xs: &[i32],
-    v: VertNo,
-    ring: &[u32],
-    k: usize,
-    a: u32,
-    b: u32,
-    stage: Stage,
-) -> Whole3
-    requires { ⌜ Readable (now xs) (v .0) × ((0 < length (now ring)) × AllReadable (now xs) (now ring)) ⌝ }
-    requires { ⌜ Creasable (now xs) k a b ⌝ }
-    ensures point { λ r. ⌜ lowered r ≡ three whole (byCount whole (staged stage) (now (xs .entry)) (v .0) (now (ring .entry)) k a b) ⌝ }
-    ensures near { λ r. ⌜ Raised3 r ⌝ }
-{
-    if k < 2 {
-        return vertex(xs, v, ring, false, stage);
-    }
-    if k == 2 {
-        return crease(xs, v, a, b, stage);
-    }
-    stay(xs, v)
 }
 
 fn half(xs: &[i32], a: VertNo, b: VertNo, c: usize) -> u64
