@@ -25,6 +25,7 @@ static int32_t ours[3 * V], theirs[3 * V], work[6 * V];
 static float our_points[3 * V], their_points[3 * V], our_normals[3 * V], their_normals[3 * V], float_work[6 * V];
 static uint32_t our_faces[3 * F], their_faces[3 * F], words[16 * F + 8 * V], told[5];
 static limit_result result;
+static const uint32_t no_sides[1];
 
 static void get(void *to, size_t n) {
     if (fread(to, 4, n, stdin) != n) {
@@ -47,7 +48,7 @@ static uint64_t nanoseconds(void) {
 }
 
 static void our_whole(const cage *c) {
-    plates_loop_subdivide_whole(c->levels, c->indices, c->n, c->coords, c->m, ours, 3 * V, our_faces, 3 * F, words, 16 * F + 8 * V, work, 6 * V, told);
+    plates_loop_subdivide_whole(c->levels, c->indices, c->n, c->coords, c->m, no_sides, 0, ours, 3 * V, our_faces, 3 * F, words, 16 * F + 8 * V, work, 6 * V, told);
 }
 
 static void their_whole(const cage *c) { result = limit_run(1, c->levels, c->m / 3, c->coords, c->n / 3, c->indices, theirs, 0, their_faces, words, work); }
@@ -61,7 +62,7 @@ static void their_single(const cage *c) {
 }
 
 static void our_checks(const cage *c) {
-    plates_loop_subdivide_whole(c->levels, c->indices, c->n, c->coords, c->m, ours, 0, our_faces, 3 * F, words, 16 * F + 8 * V, work, 6 * V, told);
+    plates_loop_subdivide_whole(c->levels, c->indices, c->n, c->coords, c->m, no_sides, 0, ours, 0, our_faces, 3 * F, words, 16 * F + 8 * V, work, 6 * V, told);
 }
 
 /* oracle/src/lib.rs: the Rust has its own form of a cage, made before it is timed, and keeps its mesh to be read afterwards */

@@ -8,7 +8,7 @@ from collections import namedtuple
 import cages
 import reference
 
-Damaged = namedtuple("Damaged", "levels indices coords number place")
+Damaged = namedtuple("Damaged", "levels indices coords number place sharp", defaults=[()])
 
 
 def small(dice):
@@ -82,6 +82,41 @@ def many_rays(dice):
 
 
 BROKEN = [equal_corners, side_again, turned_over, unused, pinched, many_rays]
+
+
+# ---- lists of sharp sides
+
+def mesh_of(faces):
+    return reference.Mesh.of_cage(cages.flat(faces), cages.vertices_of(faces))
+
+
+def across(mesh, s):
+    """The other side of the edge of side s."""
+    face, k = mesh.faces[s // 3], s % 3
+    a, b = face[k], face[(k + 1) % 3]
+    f = mesh.side_from[b, a]
+    return 3 * f + mesh.faces[f].index(b)
+
+
+def sharp_sides(dice, faces):
+    """Some edges inside the mesh, each named from either face or both, once or twice, in any order."""
+    mesh = mesh_of(faces)
+    inside = [s for s in range(3 * len(faces)) if not reference.loose(mesh, s)]
+    one_in = dice.pick([1, 2, 2, 4, 9])
+    named = [dice.pick([[s], [s], [s, s], [across(mesh, s)], [across(mesh, s), s]]) for s in inside if dice.below(one_in) == 0]
+    return dice.shuffled([s for sides in named for s in sides])
+
+
+def loose_side(dice):
+    """A list some of whose sides are on the rim, or not there; the first of them is the place."""
+    faces = small(dice)
+    mesh = mesh_of(faces)
+    rim = [s for s in range(3 * len(faces)) if reference.loose(mesh, s)]
+    past = [3 * len(faces), 3 * len(faces) + dice.below(99), 2**31, 2**32 - 1]
+    before, after = sharp_sides(dice, faces), sharp_sides(dice, faces)
+    sharp = before + [dice.pick(rim or past) if dice.below(2) else dice.pick(past)] + dice.shuffled(after + rim[:dice.below(3)] + past[:dice.below(4)])
+    coords = [coordinate(dice, reference.WHOLE) for _ in range(3 * cages.vertices_of(faces))]
+    return Damaged(dice.below(8), cages.flat(faces), coords, 18, len(before), sharp)
 
 
 def coordinate(dice, kind):

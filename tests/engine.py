@@ -1,5 +1,5 @@
 """The public calls of plates.h, on many cages at once: cases with the answers that they must get, tests/engine.c as a function from cases to answers, and what differs.
-Random cases: accepted cages, short buffers, damaged cages, fresh cages for the oracle."""
+Random cases: accepted cages, with sharp sides too, short buffers, damaged cages and lists, fresh cages for the oracle."""
 import struct
 import subprocess
 from collections import namedtuple
@@ -15,8 +15,8 @@ SHEET = "sheet"
 KINDS = (ref.WHOLE, ref.F32)
 EXACT = (0, 0, 0, 0, 0)
 
-# `indices`: of a sheet its bytes. `lent`: the lengths of positions, normals, indices, words and work coordinates. `five`: the numbers of the answer.
-Case = namedtuple("Case", "what kind levels indices coords lent five positions normals faces")
+# `indices`: of a sheet its bytes. `lent`: the lengths of positions, normals, indices, words and work coordinates. `five`: the numbers of the answer. `sharp`: the listed sides.
+Case = namedtuple("Case", "what kind levels indices coords lent five positions normals faces sharp", defaults=[()])
 Told = namedtuple("Told", "five harmed positions normals faces")
 
 
@@ -30,12 +30,12 @@ class Unexpected(Exception):
 
 # ---- what must be answered
 
-def refused(what, kind, levels, indices, coords, lent, number, place):
-    return Case(what, kind, levels, indices, coords, lent, (number, place, 0, 0, 0), [], [], [])
+def refused(what, kind, levels, indices, coords, lent, number, place, sharp=()):
+    return Case(what, kind, levels, indices, coords, lent, (number, place, 0, 0, 0), [], [], [], sharp)
 
 
-def solved(what, kind, levels, indices, coords, lent, five, positions, faces, normals=()):
-    return Case(what, kind, levels, indices, coords, lent, five, positions, list(normals), faces)
+def solved(what, kind, levels, indices, coords, lent, five, positions, faces, normals=(), sharp=()):
+    return Case(what, kind, levels, indices, coords, lent, five, positions, list(normals), faces, sharp)
 
 
 def lengths(kind, vertices, faces, more=EXACT):
@@ -43,19 +43,19 @@ def lengths(kind, vertices, faces, more=EXACT):
     return [needed.get(b, 0) + more[b] for b in range(5)]
 
 
-def judged(what, kind, levels, indices, coords, lent=None):
+def judged(what, kind, levels, indices, coords, lent=None, sharp=()):
     """What the reference says, a refusal too. With no `lent` there is always room, and the case has yet to be given some."""
     try:
         cage = ref.read_sheet(indices) if kind == SHEET else (levels, indices, coords)
-        r = (ref.loop_subdivide if kind == ref.F32 else ref.loop_subdivide_whole)(*cage, lent)
+        r = ref.loop_subdivide(*cage, lent) if kind == ref.F32 else ref.loop_subdivide_whole(*cage, lent, sharp)
     except ref.Refused as no:
-        return refused(what, kind, levels, indices, coords, lent, no.number, no.place)
-    return solved(what, kind, levels, indices, coords, lent, (0, 0, *r.counts), r.positions, r.indices, r.normals or ())
+        return refused(what, kind, levels, indices, coords, lent, no.number, no.place, sharp)
+    return solved(what, kind, levels, indices, coords, lent, (0, 0, *r.counts), r.positions, r.indices, r.normals or (), sharp)
 
 
-def by_reference(what, levels, indices, coords, more=EXACT, kind=ref.WHOLE):
+def by_reference(what, levels, indices, coords, more=EXACT, kind=ref.WHOLE, sharp=()):
     """A cage made to be accepted, lent what it needs and so much more."""
-    c = judged(what, kind, levels, indices, coords)
+    c = judged(what, kind, levels, indices, coords, None, sharp)
     c = c._replace(lent=lengths(kind, *c.five[2:4], more))
     if c.five[0]:
         raise Unexpected(c)
@@ -91,6 +91,13 @@ def accepted(what, dice, kind):
     return by_reference(what, levels_for(dice, faces), cages.flat(faces), coordinates(dice, faces, kind), more, kind)
 
 
+def marked(what, dice):
+    """With sharp edges, few or many, each named from either face or both, once or twice, in any order."""
+    faces = damage.small(dice)
+    levels = min(levels_for(dice, faces), 3)
+    return by_reference(what, levels, cages.flat(faces), coordinates(dice, faces, ref.WHOLE), beyond(dice), ref.WHOLE, damage.sharp_sides(dice, faces))
+
+
 def short(what, dice, kind):
     """One buffer or more too short by one or more; the first of them is the place."""
     faces = damage.small(dice)
@@ -106,9 +113,17 @@ def short(what, dice, kind):
 
 
 def damaged(what, dice, kind):
+    """The list of sharp sides is not looked at before 12, whatever it names."""
     d = damage.damaged(dice, kind)
     lent = [dice.below(200) for _ in range(5)]
-    return refused(what, kind, d.levels, d.indices, d.coords, lent, d.number, d.place)
+    sharp = [dice.pick([0, dice.below(200), 2**32 - 1]) for _ in range(dice.below(4))] if kind == ref.WHOLE and d.number <= 12 else ()
+    return refused(what, kind, d.levels, d.indices, d.coords, lent, d.number, d.place, sharp)
+
+
+def loose(what, dice):
+    """18, at any number of levels and with any room: 13 and 14 come after it."""
+    d = damage.loose_side(dice)
+    return refused(what, ref.WHOLE, d.levels, d.indices, d.coords, [dice.below(200) for _ in range(5)], d.number, d.place, d.sharp)
 
 
 def fresh(dice):
@@ -135,9 +150,10 @@ def driver():
 
 def packed(c):
     if c.kind == SHEET:
-        return struct.pack("<9I", 2, c.levels, len(c.indices), 0, *c.lent) + c.indices + bytes(-len(c.indices) % 4)
+        return struct.pack("<10I", 2, c.levels, len(c.indices), 0, 0, *c.lent) + c.indices + bytes(-len(c.indices) % 4)
     single = c.kind == ref.F32
-    return struct.pack(f"<9I{len(c.indices)}I{len(c.coords)}{'I' if single else 'i'}", single, c.levels, len(c.indices), len(c.coords), *c.lent, *c.indices, *c.coords)
+    return struct.pack(f"<10I{len(c.indices)}I{len(c.coords)}{'I' if single else 'i'}{len(c.sharp)}I", single, c.levels, len(c.indices), len(c.coords), len(c.sharp), *c.lent,
+                       *c.indices, *c.coords, *c.sharp)
 
 
 def run(program, cases):

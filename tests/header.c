@@ -26,8 +26,8 @@ static void expect(const char *what, const char *more, int holds) {
 typedef struct {
     const char *name;
     uint32_t levels;
-    size_t corners, numbers;
-    uint32_t indices[3 * PLATES_MOST_IN_CAGE + 3];
+    size_t corners, numbers, sharps;
+    uint32_t indices[3 * PLATES_MOST_IN_CAGE + 3], sharp[PLATES_MOST_IN_CAGE];
     int32_t coords[3 * PLATES_MOST_IN_CAGE + 3];
     uint32_t told[5]; /* what is to come */
 } Cage;
@@ -84,8 +84,8 @@ static void *run(void *given) {
     const Cage *c = t->cage;
     Lent *l = t->lent;
     if (t->kind == WHOLE)
-        plates_loop_subdivide_whole(c->levels, c->indices, c->corners, c->coords, c->numbers, (int32_t *)l->positions, l->lent[0], l->out, l->lent[2], l->words,
-                                    l->lent[3], (int32_t *)l->work, l->lent[4], l->told);
+        plates_loop_subdivide_whole(c->levels, c->indices, c->corners, c->coords, c->numbers, c->sharp, c->sharps, (int32_t *)l->positions, l->lent[0], l->out, l->lent[2],
+                                    l->words, l->lent[3], (int32_t *)l->work, l->lent[4], l->told);
     else if (t->kind == SINGLE)
         plates_loop_subdivide(c->levels, c->indices, c->corners, t->floats, c->numbers, (float *)l->positions, l->lent[0], (float *)l->normals, l->lent[1], l->out,
                               l->lent[2], l->words, l->lent[3], (float *)l->work, l->lent[4], l->told);
@@ -194,6 +194,13 @@ static Cage *plate(const char *name, uint32_t levels, size_t w, size_t h, int ov
     return solved(c, v, f, rims);
 }
 
+/* every second side 2, the edge between the two faces of a cell, is sharp in the whole call */
+static Cage *creased(Cage *c) {
+    for (size_t f = 0; f < c->corners / 3; f += 2)
+        c->sharp[c->sharps++] = (uint32_t)(3 * f + 2);
+    return c;
+}
+
 /* a fan of n faces round vertex 0, closed or open */
 static Cage *fan(const char *name, size_t n, int closed) {
     Cage *c = cage(name, 0);
@@ -228,6 +235,9 @@ static void make_cages(void) {
     plate("32,768 faces", 7, 1, 1, 0);
     plate("a plate", 2, 3, 3, 0);
     plate("a plate turned over", 2, 3, 3, 1);
+    creased(plate("two faces with a sharp edge, 32,768", 7, 1, 1, 0));
+    creased(plate("512 faces with sharp edges, 32,768", 3, 16, 16, 0));
+    creased(plate("4,026 faces with sharp edges", 1, 61, 33, 0));
     solved(fan("a closed fan of 16", 16, 1), 17, 16, 16);
     solved(fan("an open fan of 15", 15, 0), 17, 15, 17);
     solved(apart("1,365 faces apart", 1, 1365), 8190, 5460, 8190);
@@ -313,7 +323,7 @@ static void nulls(void) {
     static const uint32_t t[3] = {0, 1, 2};
     static const int32_t xs[9] = {0, 0, 0, 8, 0, 0, 0, 8, 0};
     static const float fs[9] = {0, 0, 0, 8, 0, 0, 0, 8, 0};
-    plates_loop_subdivide_whole(7, NULL, 0, NULL, 0, NULL, 0, NULL, 0, NULL, 0, NULL, 0, told);
+    plates_loop_subdivide_whole(7, NULL, 0, NULL, 0, NULL, 0, NULL, 0, NULL, 0, NULL, 0, NULL, 0, told);
     expect("NULL for all", "whole", tells(told, PLATES_DONE, 0));
     plates_loop_subdivide(7, NULL, 0, NULL, 0, NULL, 0, NULL, 0, NULL, 0, NULL, 0, NULL, 0, told);
     expect("NULL for all", "f32", tells(told, PLATES_DONE, 0));
@@ -323,18 +333,20 @@ static void nulls(void) {
     expect("NULL for all", "writer", told[0] == PLATES_NO_ROOM_FOR_SHEET && !told[1] && !told[2]);
     expect("NULL for all", "sheets", plates_subdivide_sheets(NULL, 0, NULL, 0, NULL, 0, NULL, 0, NULL, 0, NULL, 0, NULL, 0) == PLATES_DONE);
     expect("NULL for all but a byte", "sheets", plates_subdivide_sheets((const uint8_t *)told, 1, NULL, 0, NULL, 0, NULL, 0, NULL, 0, NULL, 0, NULL, 0) == PLATES_BAD_BATCH);
-    plates_loop_subdivide_whole(8, NULL, 0, NULL, 0, NULL, 0, NULL, 0, NULL, 0, NULL, 0, told);
+    plates_loop_subdivide_whole(8, NULL, 0, NULL, 0, NULL, 0, NULL, 0, NULL, 0, NULL, 0, NULL, 0, told);
     expect("NULL, and 8 levels", "whole", tells(told, PLATES_TOO_MANY_LEVELS, 0));
-    plates_loop_subdivide_whole(0, &corner, 1, NULL, 0, NULL, 0, NULL, 0, NULL, 0, NULL, 0, told);
+    plates_loop_subdivide_whole(0, &corner, 1, NULL, 0, NULL, 0, NULL, 0, NULL, 0, NULL, 0, NULL, 0, told);
     expect("a list of one corner", "whole", tells(told, PLATES_LIST_CUT_OFF, 0));
-    plates_loop_subdivide_whole(0, NULL, 0, xs, 8, NULL, 0, NULL, 0, NULL, 0, NULL, 0, told);
+    plates_loop_subdivide_whole(0, NULL, 0, xs, 8, NULL, 0, NULL, 0, NULL, 0, NULL, 0, NULL, 0, told);
     expect("a list of eight coordinates", "whole", tells(told, PLATES_LIST_CUT_OFF, 1));
-    plates_loop_subdivide_whole(0, t, 3, NULL, 0, NULL, 0, NULL, 0, NULL, 0, NULL, 0, told);
+    plates_loop_subdivide_whole(0, t, 3, NULL, 0, NULL, 0, NULL, 0, NULL, 0, NULL, 0, NULL, 0, told);
     expect("faces and no vertices", "whole", tells(told, PLATES_CORNER_NAMES_NO_VERTEX, 0));
-    plates_loop_subdivide_whole(0, NULL, 0, xs, 9, NULL, 0, NULL, 0, NULL, 0, NULL, 0, told);
+    plates_loop_subdivide_whole(0, NULL, 0, xs, 9, NULL, 0, NULL, 0, NULL, 0, NULL, 0, NULL, 0, told);
     expect("vertices and no faces", "whole", tells(told, PLATES_VERTEX_ON_NO_FACE, 0));
+    plates_loop_subdivide_whole(0, t, 3, xs, 9, t, 1, NULL, 0, NULL, 0, NULL, 0, NULL, 0, told);
+    expect("a rim side listed as sharp", "whole", tells(told, PLATES_SIDE_CANNOT_BE_SHARP, 0));
     for (uint32_t levels = 0; levels < 8; levels++) {
-        plates_loop_subdivide_whole(levels, t, 3, xs, 9, NULL, 0, NULL, 0, NULL, 0, NULL, 0, told);
+        plates_loop_subdivide_whole(levels, t, 3, xs, 9, NULL, 0, NULL, 0, NULL, 0, NULL, 0, NULL, 0, told);
         expect("NULL for the buffers", "whole", tells(told, PLATES_BUFFER_SHORT, 0));
         plates_loop_subdivide(levels, t, 3, fs, 9, NULL, 0, NULL, 0, NULL, 0, NULL, 0, NULL, 0, told);
         expect("NULL for the buffers", "f32", tells(told, PLATES_BUFFER_SHORT, 0));

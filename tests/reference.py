@@ -4,7 +4,7 @@
 It shares no code with the Rattle crates or the oracle, searches where they keep links, and works in Python's own whole numbers and
 fractions. `python3 tests/reference.py < sheet` prints what `platecut` prints.
 
-A cage is levels, a flat list of corner numbers and a flat list of coordinates: whole numbers (kind WHOLE) or f32 bits (kind F32).
+A cage is levels, a flat list of corner numbers and a flat list of coordinates: whole numbers (kind WHOLE) or f32 bits (kind F32). A sharp edge is the set of its two ends.
 """
 import struct
 import sys
@@ -88,11 +88,20 @@ class Mesh:
                     found.append((f, k))
         return found
 
+    def ends(self, f, k):
+        return frozenset((self.faces[f][k], self.faces[f][(k + 1) % 3]))
+
+    def middles(self):
+        """The number of each edge's new vertex, by its ends."""
+        return {self.ends(f, k): len(self.starts) + n for n, (f, k) in enumerate(self.edges())}
+
+    def halves(self, sharp):
+        """The sharp edges one level on."""
+        middle = self.middles()
+        return {frozenset((end, middle[ends])) for ends in sharp for end in ends}
+
     def refined(self):
-        edges, number = self.edges(), {}
-        for n, (f, k) in enumerate(edges):
-            face = self.faces[f]
-            number[frozenset((face[k], face[(k + 1) % 3]))] = len(self.starts) + n
+        edges, number = self.edges(), self.middles()
         children = []
         for a, b, c in self.faces:
             m0, m1, m2 = number[frozenset((a, b))], number[frozenset((b, c))], number[frozenset((c, a))]
@@ -175,9 +184,18 @@ def needed(faces, vertices, kind):
     return lengths
 
 
-def check(levels, indices, coords, kind, room=None):
-    """Checks 1 to 14. `room` has the lent length of each buffer; with None there is always enough."""
+def loose(mesh, s):
+    """Whether side s does not exist, or has no face across it."""
+    if s >= 3 * len(mesh.faces):
+        return True
+    face, k = mesh.faces[s // 3], s % 3
+    return (face[(k + 1) % 3], face[k]) not in mesh.side_from
+
+
+def check(levels, indices, coords, kind, room=None, sharp=()):
+    """Checks 1 to 14, and 18 between 12 and 13. `room` has the lent length of each buffer; with None there is always enough."""
     mesh = check_cage(levels, indices, coords, kind)
+    first(18, [i for i, s in enumerate(sharp) if loose(mesh, s)])
     faces, vertices = final_counts(mesh, levels)
     if faces > 32768 or vertices > 32768:
         raise Refused(13)
@@ -209,24 +227,36 @@ def rule(v, b, others):
     return [(v, own)] + [(r, b) for r in others], d
 
 
-def refining(v, inner, ring):
-    return rule(v, beta(len(ring)), ring) if inner else rule(v, Fraction(1, 8), [ring[0], ring[-1]])
+def creases(v, inner, ring, sharp):
+    """The far ends of the rim and sharp edges at v."""
+    return ([] if inner else [ring[0], ring[-1]]) + [r for r in ring if frozenset((v, r)) in sharp]
 
 
-def at_limit(v, inner, ring):
-    return rule(v, inner_limit(len(ring)), ring) if inner else rule(v, Fraction(1, 6), [ring[0], ring[-1]])
+def by_count(v, ring, far_ends, inner_weight, rim_weight):
+    """No sharp or rim edge at v, or one: the ring rule; two: the rim weights with their far ends; more: v stays."""
+    if len(far_ends) < 2:
+        return rule(v, inner_weight(len(ring)), ring)
+    return rule(v, rim_weight, far_ends) if len(far_ends) == 2 else ([(v, 1)], 1)
+
+
+def refining(v, ring, far_ends):
+    return by_count(v, ring, far_ends, beta, Fraction(1, 8))
+
+
+def at_limit(v, ring, far_ends):
+    return by_count(v, ring, far_ends, inner_limit, Fraction(1, 6))
 
 
 def far_corner(face, ends):
     return next(v for v in face if v not in ends)
 
 
-def edge_rule(mesh, f, k):
+def edge_rule(mesh, f, k, sharp=frozenset()):
     face = mesh.faces[f]
     a, b = face[k], face[(k + 1) % 3]
     low, high = min(a, b), max(a, b)
     other = mesh.side_from.get((b, a))
-    if other is None:
+    if other is None or mesh.ends(f, k) in sharp:
         return [(low, 1), (high, 1)], 2
     return [(low, 3), (high, 3), (far_corner(face, (a, b)), 1), (far_corner(mesh.faces[other], (a, b)), 1)], 8
 
@@ -246,41 +276,42 @@ def mean(points, rule, rounded):
     return tuple(rounded(sum(points[v][axis] * w for v, w in terms), d) for axis in range(3))
 
 
-def vertex_rules(mesh, place):
-    return [place(v, *mesh.ring(v)) for v in range(len(mesh.starts))]
+def vertex_rules(mesh, sharp, place):
+    rings = [mesh.ring(v) for v in range(len(mesh.starts))]
+    return [place(v, ring, creases(v, inner, ring, sharp)) for v, (inner, ring) in enumerate(rings)]
 
 
-def run_levels(mesh, points, levels, rounded):
-    """The mesh and the points after the levels and before the limit."""
+def run_levels(mesh, points, levels, rounded, sharp=frozenset()):
+    """The mesh, the points and the sharp edges after the levels and before the limit."""
     for _ in range(levels):
-        rules = vertex_rules(mesh, refining) + [edge_rule(mesh, f, k) for f, k in mesh.edges()]
+        rules = vertex_rules(mesh, sharp, refining) + [edge_rule(mesh, f, k, sharp) for f, k in mesh.edges()]
         points = [mean(points, rule, rounded) for rule in rules]
-        mesh = mesh.refined()
-    return mesh, points
+        mesh, sharp = mesh.refined(), mesh.halves(sharp)
+    return mesh, points, sharp
 
 
 def triples(flat):
     return [tuple(flat[i:i + 3]) for i in range(0, len(flat), 3)]
 
 
-def limit(mesh, coords, levels, rounded):
-    """The last mesh and its limit points: rounded by `half_away` the whole engine's, by `exact` the exact limit positions."""
-    mesh, points = run_levels(mesh, triples(coords), levels, rounded)
-    return mesh, [mean(points, rule, rounded) for rule in vertex_rules(mesh, at_limit)]
+def limit(mesh, coords, levels, rounded, sides=()):
+    """The last mesh and its limit points, with those sides sharp: rounded by `half_away` the whole engine's, by `exact` the exact limit positions."""
+    mesh, points, sharp = run_levels(mesh, triples(coords), levels, rounded, {mesh.ends(*divmod(s, 3)) for s in sides})
+    return mesh, [mean(points, rule, rounded) for rule in vertex_rules(mesh, sharp, at_limit)]
 
 
 def counts_of(mesh):
     return Counts(len(mesh.starts), len(mesh.faces), mesh.rim_sides())
 
 
-def loop_subdivide_whole(levels, indices, coords, room=None):
-    mesh, points = limit(check(levels, indices, coords, WHOLE, room), coords, levels, half_away)
+def loop_subdivide_whole(levels, indices, coords, room=None, sharp=()):
+    mesh, points = limit(check(levels, indices, coords, WHOLE, room, sharp), coords, levels, half_away, sharp)
     return Answer(counts_of(mesh), [v for face in mesh.faces for v in face], [c for p in points for c in p], None)
 
 
-def exact_limit(levels, indices, coords):
+def exact_limit(levels, indices, coords, sharp=()):
     """The exact limit positions of an accepted whole cage, as fractions."""
-    mesh, points = limit(check(levels, indices, coords, WHOLE), coords, levels, exact)
+    mesh, points = limit(check(levels, indices, coords, WHOLE, None, sharp), coords, levels, exact, sharp)
     return [Fraction(c) for p in points for c in p]
 
 

@@ -1,8 +1,8 @@
 /* Loop subdivision to the limit surface. No call allocates, keeps anything between calls, or reads or writes past the lengths that it is given.
 
    A cage is `levels` (0 to 7), `indices`, three corner numbers to a face, and `coords`, three coordinates to a vertex. Lengths count entries, not bytes, and may be
-   anything: a cage or a buffer that will not do is refused. The buffers that are written (positions, normals, out, words, work, told) must not overlap each other or
-   the cage. A pointer may be NULL where its length is 0, as an empty vector's is; `told` may not.
+   anything: a cage or a buffer that will not do is refused. The buffers that are written (positions, normals, out, words, work, told) must not overlap each other, the
+   cage or `sharp`. A pointer may be NULL where its length is 0, as an empty vector's is; `told` may not.
 
    With F faces and V vertices at the last level, positions and normals need 3V entries, out 3F, words 16F+8V, work 6V. After success each has its result in front,
    the needed part of words and work is zero, and entries past the needed length are unchanged. A refusal writes nothing but `told`. One level makes 4F faces and V+E
@@ -12,7 +12,7 @@
    (docs/HANDBOOK.md), and the rest is 0.
 
    Any number of threads may call at once, each with buffers of its own; a cage may be shared. A call on lists takes less than PLATES_STACK bytes of its
-   thread's stack, a call on sheets less than PLATES_STACK_SHEET. */
+   thread's stack, the call on a sheet less than PLATES_STACK_SHEET. */
 #ifndef PLATES_H
 #define PLATES_H
 
@@ -24,10 +24,10 @@ extern "C" {
 #endif
 
 /* Counts up when something in this file changes, or what a call answers. */
-#define PLATES_VERSION 5
+#define PLATES_VERSION 6
 
 /* The stack that a call may take, in bytes: give a thread as much, and what its own functions take besides. Where a system gives a thread 128 KB, the calls on lists run in it;
-   a call on sheets holds a sheet's lists too. */
+   the call on a sheet holds the sheet's lists too. */
 #define PLATES_STACK 114688       /* 112 KB */
 #define PLATES_STACK_SHEET 212992 /* 208 KB */
 
@@ -60,13 +60,16 @@ enum plates_refusal {
     PLATES_BUFFER_SHORT = 14,
     PLATES_NOT_A_SHEET = 15,
     PLATES_NO_ROOM_FOR_SHEET = 17,
+    PLATES_SIDE_CANNOT_BE_SHARP = 18,
     PLATES_BAD_BATCH = 19 /* the number that plates_subdivide_sheets returns */
 };
 
-/* Whole micrometres, -1,000,000,000 to 1,000,000,000. */
+/* Whole micrometres, -1,000,000,000 to 1,000,000,000. `sharp` lists sides whose edges stay sharp (docs/RULES.md): side 3 f + k of face f runs from its corner k to the next.
+   An edge may be named from either of its faces or from both, in any order and as often as one likes; an edge on the rim may not. At sharp_length 0 no edge is sharp. */
 void plates_loop_subdivide_whole(uint32_t levels,
                                  const uint32_t *indices, size_t indices_length,
                                  const int32_t *coords, size_t coords_length,
+                                 const uint32_t *sharp, size_t sharp_length,
                                  int32_t *positions, size_t positions_length,
                                  uint32_t *out, size_t out_length,
                                  uint32_t *words, size_t words_length,

@@ -25,6 +25,7 @@ static const char *name(uint32_t refusal) {
     case PLATES_BUFFER_SHORT: return "a lent buffer is short";
     case PLATES_NOT_A_SHEET: return "not a sheet";
     case PLATES_NO_ROOM_FOR_SHEET: return "no room for the sheet";
+    case PLATES_SIDE_CANNOT_BE_SHARP: return "a listed side cannot be sharp";
     case PLATES_BAD_BATCH: return "the batch does not add up";
     default: return "no refusal";
     }
@@ -36,8 +37,8 @@ static uint32_t out[PLATES_ROOM_OUT], words[PLATES_ROOM_WORDS];
 
 static void cut(const char *what, uint32_t levels, const uint32_t *indices, size_t corners, const int32_t *coords, size_t numbers) {
     uint32_t told[5];
-    plates_loop_subdivide_whole(levels, indices, corners, coords, numbers, positions, PLATES_ROOM_POSITIONS, out, PLATES_ROOM_OUT, words, PLATES_ROOM_WORDS, work,
-                                PLATES_ROOM_WORK, told);
+    plates_loop_subdivide_whole(levels, indices, corners, coords, numbers, NULL, 0, positions, PLATES_ROOM_POSITIONS, out, PLATES_ROOM_OUT, words, PLATES_ROOM_WORDS,
+                                work, PLATES_ROOM_WORK, told);
     if (told[0] != PLATES_DONE)
         printf("%s, levels %u: refused %u at %u, %s\n", what, levels, told[0], told[1], name(told[0]));
     else

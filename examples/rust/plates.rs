@@ -20,6 +20,7 @@ extern "C" {
         levels: u32,
         indices: *const u32, indices_len: usize,
         coords: *const i32, coords_len: usize,
+        sharp: *const u32, sharp_len: usize,
         positions: *mut i32, positions_len: usize,
         out: *mut u32, out_len: usize,
         words: *mut u32, words_len: usize,
@@ -54,9 +55,9 @@ fn threes<T: Copy>(list: &[T]) -> Vec<[T; 3]> {
     list.chunks_exact(3).map(|c| [c[0], c[1], c[2]]).collect()
 }
 
-/// Whole micrometres. Every list of numbers gets a mesh or a refusal; nothing has to be checked beforehand. A thread of 112 KB of stack does
+/// Whole micrometres, with the edges of the sides in `sharp` (3 face + side) sharp. Every list of numbers gets a mesh or a refusal; nothing has to be checked beforehand. A thread of 112 KB of stack does
 /// (crates/plates/plates.h), and one that the standard library makes has 2 MB.
-pub fn loop_subdivide_whole(levels: u32, indices: &[u32], coords: &[i32]) -> Result<Mesh, Refusal> {
+pub fn loop_subdivide_whole(levels: u32, indices: &[u32], coords: &[i32], sharp: &[u32]) -> Result<Mesh, Refusal> {
     let mut positions = vec![0i32; 3 * MOST];
     let mut out = vec![0u32; 3 * MOST];
     let mut words = vec![0u32; 24 * MOST];
@@ -68,6 +69,7 @@ pub fn loop_subdivide_whole(levels: u32, indices: &[u32], coords: &[i32]) -> Res
             levels,
             indices.as_ptr(), indices.len(),
             coords.as_ptr(), coords.len(),
+            sharp.as_ptr(), sharp.len(),
             positions.as_mut_ptr(), positions.len(),
             out.as_mut_ptr(), out.len(),
             words.as_mut_ptr(), words.len(),
@@ -147,7 +149,7 @@ pub fn subdivide_sheets(sheets: &[&[u8]]) -> Result<Vec<Result<Mesh, Refusal>>, 
 
 fn main() {
     let triangle = [0, 0, 0, 8, 0, 0, 0, 8, 0];
-    match loop_subdivide_whole(1, &[0, 1, 2], &triangle) {
+    match loop_subdivide_whole(1, &[0, 1, 2], &triangle, &[]) {
         Ok(mesh) => {
             println!("mesh {} {} {}", mesh.positions.len(), mesh.faces.len(), mesh.rim_sides);
             mesh.positions.iter().for_each(|p| println!("v {} {} {}", p[0], p[1], p[2]));
@@ -155,8 +157,15 @@ fn main() {
         }
         Err(r) => println!("refused {} at {}", r.number, r.place),
     }
-    for (levels, indices, coords) in [(8, vec![0, 1, 2], &triangle[..]), (0, vec![0, 1, 2, 0, 2, 1], &triangle[..]), (0, vec![0, 1, 3], &triangle[..]), (0, vec![], &[])] {
-        match loop_subdivide_whole(levels, &indices, coords) {
+    let one = vec![0, 1, 2];
+    for (levels, indices, coords, sharp) in [
+        (8, one.clone(), &triangle[..], vec![]),
+        (0, vec![0, 1, 2, 0, 2, 1], &triangle[..], vec![]),
+        (0, vec![0, 1, 3], &triangle[..], vec![]),
+        (0, one, &triangle[..], vec![0]),
+        (0, vec![], &[], vec![]),
+    ] {
+        match loop_subdivide_whole(levels, &indices, coords, &sharp) {
             Ok(mesh) => println!("mesh {} {} {}", mesh.positions.len(), mesh.faces.len(), mesh.rim_sides),
             Err(r) => println!("refused {} at {}", r.number, r.place),
         }

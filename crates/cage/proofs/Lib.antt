@@ -4,3 +4,4 @@ pub mod Across
 pub mod Rounds
 pub mod Sizes
 pub mod Stages
+pub mod SharpList

@@ -76,7 +76,7 @@ abbrev put : Sizes → ℕ → Counts
 put s r = record { vertices = s .verts; faces = s .faces; rims = r }
 
 -- what is counted on the last level of an accepted cage
-counts-of : (𝓝 : Numbers) (l : ℕ) (fs : List ℕ) (xs : List (𝓝 .N)) → refusal 𝓝 l fs xs ≡ none → counted (last 𝓝 l fs xs .mesh) ≡ cageCounts l (length xs / 3) fs
+pub counts-of : (𝓝 : Numbers) (l : ℕ) (fs : List ℕ) (xs : List (𝓝 .N)) → refusal 𝓝 l fs xs ≡ none → counted (last 𝓝 l fs xs .mesh) ≡ cageCounts l (length xs / 3) fs
 unfolding cage
 counts-of 𝓝 l fs xs e =
     let v = length xs / 3 in

@@ -45,14 +45,14 @@ or-assoc : (a b c : Option Refusal) → (a orElse b) orElse c ≡ a orElse (b or
 or-assoc none b c = refl
 or-assoc (some x) b c = refl
 
-pub five-first : (l v : ℕ) (fs : List ℕ) → fromFive l v fs ≡ check 5 (find (λ u. leb v u) fs) orElse (check 6 (lowest (equalCorners fs) (length fs / 3)) orElse fromSeven l v fs)
+pub five-first : (l v : ℕ) (sh fs : List ℕ) → fromFive l v sh fs ≡ check 5 (find (λ u. leb v u) fs) orElse (check 6 (lowest (equalCorners fs) (length fs / 3)) orElse fromSeven l v sh fs)
 unfolding listRefusal
-five-first l v fs =
+five-first l v sh fs =
     let c5 = check 5 (find (λ u. leb v u) fs) in
     let c6 = check 6 (lowest (equalCorners fs) (length fs / 3)) in
     let c7 = check 7 (lowest (usedBefore (sides fs)) (3 * (length fs / 3))) in
     let c8 = check 8 (lowest (λ f. found (lowest (sameSet fs f) f)) (length fs / 3)) in
-    let r = fromNine l v fs in
+    let r = fromNine l v sh fs in
     or-assoc c5 (c6 orElse c7 orElse c8) r
     ∙ ap (λ (x : Option Refusal). c5 orElse x) (or-assoc c6 (c7 orElse c8) r)
     ∙ ap (λ (x : Option Refusal). c5 orElse (c6 orElse x)) (or-assoc c7 c8 r)

@@ -27,6 +27,11 @@ pub record Tables (fs hs ws : List ℕ) : Type 0 where
   pub room : length fs ≤ length ws
   pub words : take (length fs) ws ≡ map coded (links fs)
 
+-- the link words alone
+pub record Linked (fs ws : List ℕ) : Type 0 where
+  pub room : length fs ≤ length ws
+  pub words : take (length fs) ws ≡ map coded (links fs)
+
 -- after check 9 each of the v vertices has a side
 pub record Used (v : ℕ) (heads : List ℕ) : Type 0 where
   pub room : v ≤ length heads

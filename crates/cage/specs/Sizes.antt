@@ -6,7 +6,8 @@ use mathlib.Core.List.{List}
 use mathlib.Core.Option.{Option, none}
 use lib.Dec.{ltb}
 use lib.ListN.{length}
-use Rattle.lists.specs.Lists.{lowest, found}
+use Rattle.lists.specs.Lists.{find, lowest, found}
+use Rattle.rules.specs.Sharp.{unlinked, told}
 use Rattle.rules.specs.Mesh.{sides, links, rims, cage}
 use Rattle.rules.specs.Levels.{Sizes, sizes, after}
 use Rattle.rules.specs.Refusals.{mostInMesh, check, _orElse_, when, sameSet, usedBefore, listRefusal, fanRefusal, sizeRefusal}
@@ -28,18 +29,21 @@ cageCounts l v fs = countsAfter l (sizes (cage v fs)) (rims (links fs))
 abbrev pub overOf : Counts → Option Refusal
 overOf c = check 13 (when (ltb mostInMesh (c .faces) || ltb mostInMesh (c .vertices)))
 
--- what is left of the table from a check on: from 9, from 8, from 7, from 5
-abbrev pub fromNine : ℕ → ℕ → List ℕ → Option Refusal
-fromNine l v fs = fanRefusal v fs orElse sizeRefusal l v fs
+-- what is left of the table from a check on, with the list sh of sharp sides: from 18, from 9, from 8, from 7, from 5
+abbrev pub fromMarks : ℕ → ℕ → List ℕ → List ℕ → Option Refusal
+fromMarks l v sh fs = check 18 (told (find (unlinked (links fs)) sh)) orElse sizeRefusal l v fs
 
-abbrev pub fromEight : ℕ → ℕ → List ℕ → Option Refusal
-fromEight l v fs = check 8 (lowest (λ f. found (lowest (sameSet fs f) f)) (length fs / 3)) orElse fromNine l v fs
+abbrev pub fromNine : ℕ → ℕ → List ℕ → List ℕ → Option Refusal
+fromNine l v sh fs = fanRefusal v fs orElse fromMarks l v sh fs
 
-abbrev pub fromSeven : ℕ → ℕ → List ℕ → Option Refusal
-fromSeven l v fs = check 7 (lowest (usedBefore (sides fs)) (3 * (length fs / 3))) orElse fromEight l v fs
+abbrev pub fromEight : ℕ → ℕ → List ℕ → List ℕ → Option Refusal
+fromEight l v sh fs = check 8 (lowest (λ f. found (lowest (sameSet fs f) f)) (length fs / 3)) orElse fromNine l v sh fs
 
-abbrev pub fromFive : ℕ → ℕ → List ℕ → Option Refusal
-fromFive l v fs = listRefusal v fs orElse fromNine l v fs
+abbrev pub fromSeven : ℕ → ℕ → List ℕ → List ℕ → Option Refusal
+fromSeven l v sh fs = check 7 (lowest (usedBefore (sides fs)) (3 * (length fs / 3))) orElse fromEight l v sh fs
+
+abbrev pub fromFive : ℕ → ℕ → List ℕ → List ℕ → Option Refusal
+fromFive l v sh fs = listRefusal v fs orElse fromNine l v sh fs
 
 -- what is answered where such a rest is left
 abbrev pub judged : Option Refusal → ℕ → ℕ → List ℕ → Outcome

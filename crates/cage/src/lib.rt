@@ -9,18 +9,20 @@ ghost use Rattle.rules.specs.Mesh.{links, cage};
 ghost use Rattle.rules.specs.Position.{whole, single};
 ghost use Rattle.rules.specs.Levels.{last};
 ghost use Rattle.rules.specs.Refusals.{shapeRefusal, rangeRefusal, sizeRefusal, refusal};
+ghost use Rattle.rules.specs.Sharp.{sharpRefusal, sharpLast};
 ghost use Rattle.rules.specs.Answers.{counted, unless};
 ghost use Rattle.faces.specs.Words.{coded};
 ghost use Rattle.cage.specs.Verdicts.{verdictOf};
 ghost use Rattle.cage.specs.Chains.{Faces, Below, Apart, Once, Heads, Chained};
 ghost use Rattle.cage.specs.Fans.{Tables};
-ghost use Rattle.cage.specs.Sizes.{judged, fromNine, fromEight, fromSeven, fromFive, Listed};
+ghost use Rattle.cage.specs.Sizes.{judged, fromMarks, fromNine, fromEight, fromSeven, fromFive, Listed};
 use rules::Outcome;
 use rules::Refusal;
 
 pub mod boundary;
 pub mod fans;
 pub mod list;
+pub mod marks;
 pub mod sides;
 pub mod size;
 
@@ -125,56 +127,82 @@ fn judge_size(levels: u32, indices: &[u32], words: &[u32], v: usize) -> Outcome
     }
 }
 
-fn judge_fans(levels: u32, indices: &[u32], heads: &[u16], words: &[u32], v: usize) -> Outcome
-    requires sizes { ⌜ (levels ≤ 7) × (v ≤ 4096) × (length (now heads) ≡ 4096) × Listed v (now indices) ⌝ }
-    requires tables { ⌜ Tables (now indices) (now heads) (now words) ⌝ }
-    ensures { λ r. ⌜ r ≡ judged (fromNine levels v (now (indices .entry))) levels v (now (indices .entry)) ⌝ }
+// 18 and 13.
+fn judge_marks(levels: u32, indices: &[u32], words: &[u32], v: usize, sharp: &[u32]) -> Outcome
+    requires sizes { ⌜ (levels ≤ 7) × (v ≤ 4096) × Faces (now indices) × Listed v (now indices) ⌝ }
+    requires links { ⌜ (length (now indices) ≤ length (now words)) × (take (length (now indices)) (now words) ≡ map coded (links (now indices))) ⌝ }
+    ensures { λ r. ⌜ r ≡ judged (fromMarks levels v (now (sharp .entry)) (now (indices .entry))) levels v (now (indices .entry)) ⌝ }
 {
-    let mut counts = [0u16; 4096];
-    fans::count_corners(indices, &mut counts);
-    match fans::fans(indices, heads, &counts, words, v) {
+    match marks::marks(sharp, indices, words) {
         Check::No(x) => Outcome::Refused(x),
         Check::Pass => judge_size(levels, indices, words, v),
     }
 }
 
-fn judge_links(levels: u32, indices: &[u32], heads: &[u16], nexts: &[u16], v: usize) -> Outcome
+fn judge_fans(
+    levels: u32,
+    indices: &[u32],
+    heads: &[u16],
+    words: &[u32],
+    v: usize,
+    sharp: &[u32],
+) -> Outcome
+    requires sizes { ⌜ (levels ≤ 7) × (v ≤ 4096) × (length (now heads) ≡ 4096) × Listed v (now indices) ⌝ }
+    requires tables { ⌜ Tables (now indices) (now heads) (now words) ⌝ }
+    ensures { λ r. ⌜ r ≡ judged (fromNine levels v (now (sharp .entry)) (now (indices .entry))) levels v (now (indices .entry)) ⌝ }
+{
+    let mut counts = [0u16; 4096];
+    fans::count_corners(indices, &mut counts);
+    match fans::fans(indices, heads, &counts, words, v) {
+        Check::No(x) => Outcome::Refused(x),
+        Check::Pass => judge_marks(levels, indices, words, v, sharp),
+    }
+}
+
+fn judge_links(
+    levels: u32,
+    indices: &[u32],
+    heads: &[u16],
+    nexts: &[u16],
+    v: usize,
+    sharp: &[u32],
+) -> Outcome
     requires sizes { ⌜ (levels ≤ 7) × (v ≤ 4096) × (length (now heads) ≡ 4096) × Faces (now indices) ⌝ }
     requires list { ⌜ Below v (now indices) × Apart (now indices) × Once (now indices) ⌝ }
     requires chains { ⌜ Heads (now indices) (length (now indices)) (now heads) × Chained (now indices) (length (now indices)) (now nexts) ⌝ }
-    ensures { λ r. ⌜ r ≡ judged (fromEight levels v (now (indices .entry))) levels v (now (indices .entry)) ⌝ }
+    ensures { λ r. ⌜ r ≡ judged (fromEight levels v (now (sharp .entry)) (now (indices .entry))) levels v (now (indices .entry)) ⌝ }
 {
     let mut words = [0u32; 12288];
     sides::put_links(indices, heads, nexts, &mut words, 0);
     match list::doubled(indices, &words) {
         Check::No(x) => Outcome::Refused(x),
-        Check::Pass => judge_fans(levels, indices, heads, &words, v),
+        Check::Pass => judge_fans(levels, indices, heads, &words, v, sharp),
     }
 }
 
-fn judge_sides(levels: u32, indices: &[u32], v: usize) -> Outcome
+fn judge_sides(levels: u32, indices: &[u32], v: usize, sharp: &[u32]) -> Outcome
     requires { ⌜ (levels ≤ 7) × (v ≤ 4096) × Faces (now indices) × Below v (now indices) × Apart (now indices) ⌝ }
-    ensures { λ r. ⌜ r ≡ judged (fromSeven levels v (now (indices .entry))) levels v (now (indices .entry)) ⌝ }
+    ensures { λ r. ⌜ r ≡ judged (fromSeven levels v (now (sharp .entry)) (now (indices .entry))) levels v (now (indices .entry)) ⌝ }
 {
     let mut heads = [0u16; 4096];
     let mut nexts = [0u16; 12288];
     sides::chain(indices, &mut heads, &mut nexts);
     match list::reused(indices, &nexts) {
         Check::No(x) => Outcome::Refused(x),
-        Check::Pass => judge_links(levels, indices, &heads, &nexts, v),
+        Check::Pass => judge_links(levels, indices, &heads, &nexts, v, sharp),
     }
 }
 
-// 5 to 13: what does not ask for the kind of number.
-fn judge_faces(levels: u32, indices: &[u32], v: usize) -> Outcome
+// 5 to 13, with 18 between 12 and 13: what does not ask for the kind of number.
+fn judge_faces(levels: u32, indices: &[u32], v: usize, sharp: &[u32]) -> Outcome
     requires { ⌜ (levels ≤ 7) × (v ≤ 4096) × Faces (now indices) ⌝ }
-    ensures { λ r. ⌜ r ≡ judged (fromFive levels v (now (indices .entry))) levels v (now (indices .entry)) ⌝ }
+    ensures { λ r. ⌜ r ≡ judged (fromFive levels v (now (sharp .entry)) (now (indices .entry))) levels v (now (indices .entry)) ⌝ }
 {
     match list::beyond(indices, v as u32) {
         Check::No(x) => Outcome::Refused(x),
         Check::Pass => match list::flat(indices) {
             Check::No(x) => Outcome::Refused(x),
-            Check::Pass => judge_sides(levels, indices, v),
+            Check::Pass => judge_sides(levels, indices, v, sharp),
         },
     }
 }
@@ -187,7 +215,20 @@ pub fn judge_whole(levels: u32, indices: &[u32], coords: &[i32]) -> Outcome
         Check::No(x) => Outcome::Refused(x),
         Check::Pass => match whole_range(coords) {
             Check::No(x) => Outcome::Refused(x),
-            Check::Pass => judge_faces(levels, indices, coords.len() / 3),
+            Check::Pass => judge_faces(levels, indices, coords.len() / 3, &indices[..0]),
+        },
+    }
+}
+
+// The same with a list of sharp sides, in whole micrometres alone.
+pub fn judge_sharp(levels: u32, indices: &[u32], coords: &[i32], sharp: &[u32]) -> Outcome
+    ensures { λ r. ⌜ r ≡ unless (sharpRefusal whole levels (now (sharp .entry)) (now (indices .entry)) (now (coords .entry))) (Outcome.Success (counted (sharpLast whole levels (now (sharp .entry)) (now (indices .entry)) (now (coords .entry)) .mesh))) ⌝ }
+{
+    match shape(levels, indices.len(), coords.len()) {
+        Check::No(x) => Outcome::Refused(x),
+        Check::Pass => match whole_range(coords) {
+            Check::No(x) => Outcome::Refused(x),
+            Check::Pass => judge_faces(levels, indices, coords.len() / 3, sharp),
         },
     }
 }
@@ -199,7 +240,7 @@ pub fn judge_single(levels: u32, indices: &[u32], coords: &[f32]) -> Outcome
         Check::No(x) => Outcome::Refused(x),
         Check::Pass => match single_range(coords) {
             Check::No(x) => Outcome::Refused(x),
-            Check::Pass => judge_faces(levels, indices, coords.len() / 3),
+            Check::Pass => judge_faces(levels, indices, coords.len() / 3, &indices[..0]),
         },
     }
 }

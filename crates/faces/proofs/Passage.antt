@@ -65,13 +65,13 @@ module _ (w : List ℕ) (corners links n s : ℕ) (p : Ringable w corners links 
   size : length ls / 3 ≡ n
   size = faces-in w links n s (p .walkable)
 
-  passes : 0 < length on
+  pub passes : 0 < length on
   passes = some-passed (nextCorner ls s) n s (filled w links n s (p .walkable))
 
   short : length on ≤ n
   short = trail-few (nextCorner ls s) n (here s)
 
-  as-rim : IsRim ls n s (lastOf 0 on)
+  pub as-rim : IsRim ls n s (lastOf 0 on)
   as-rim = rim-is ls n s size (p .turns) (length on) (lastOf 0 on) (rw ends)
 
   abbrev rest : List ℕ
@@ -80,13 +80,13 @@ module _ (w : List ℕ) (corners links n s : ℕ) (p : Ringable w corners links 
   fuel : n ≡ suc (n - length on + (length on - 1))
   fuel = omega (arith, passes, short)
 
-  again : n + 1 - length on ≡ suc (n - length on)
+  pub again : n + 1 - length on ≡ suc (n - length on)
   again = omega (arith, passes, short)
 
-  begins : getD on 0 0 ≡ s
+  pub begins : getD on 0 0 ≡ s
   begins = first-passed (nextCorner ls s) n s (filled w links n s (p .walkable))
 
-  whole-fan : trail (prevCorner ls (lastOf 0 on)) n (here (lastOf 0 on)) ≡ downFrom on (length on - 1) ++ rest
+  pub whole-fan : trail (prevCorner ls (lastOf 0 on)) n (here (lastOf 0 on)) ≡ downFrom on (length on - 1) ++ rest
   whole-fan =
       ap (λ (z : ℕ). trail (prevCorner ls (lastOf 0 on)) z (here (lastOf 0 on))) fuel
       ∙ back-trail ls (p .leads) n s ends (n - length on) passes
@@ -149,7 +149,7 @@ pub record Told (st : Stop) (a b m e : ℕ) : Type 0 where
   pub count : a ≡ m
   pub end : b ≡ e
 
-told : (st : Stop) (a b m e : ℕ) → tripBy st a b ≡ trip.Ended m e → Told st a b m e
+pub told : (st : Stop) (a b m e : ℕ) → tripBy st a b ≡ trip.Ended m e → Told st a b m e
 told closed a b m e q = absurd (let z : _≡_ {A = ℕ} 0 1 = cc in omega arith)
 told ended a b m e q = record { stop = refl; count = cc; end = cc }
 told long a b m e q = absurd (let z : _≡_ {A = ℕ} 0 1 = cc in omega arith)

@@ -63,7 +63,7 @@ module _ (ls : List (Option ℕ)) (leads : (x t : ℕ) → getD ls x none ≡ so
   abbrev on : List ℕ
   on = trail (nextCorner ls s) n (here s)
 
-  off-last : nextCorner ls s (lastOf 0 on) ≡ off
+  pub off-last : nextCorner ls s (lastOf 0 on) ≡ off
   off-last = rw ends at (last-stop (nextCorner ls s) n s 0)
 
   not-last : (i : ℕ) → suc i < length on → getD on i 0 ≢ lastOf 0 on

@@ -216,7 +216,7 @@ pub fn backward(s: usize) -> usize
 }
 
 // A walk is back at the corner where it began, off the rim, or on a further corner.
-enum Step {
+pub enum Step {
     Home,
     Off,
     Here(usize),
@@ -237,7 +237,7 @@ fn after(w: u32) -> u32
 }
 
 // `next_face`: across the side that leaves the vertex.
-fn next_corner(words: &[u32], links: usize, home: usize, s: usize) -> Step
+pub fn next_corner(words: &[u32], links: usize, home: usize, s: usize) -> Step
     requires { ⌜ links + s < length (now words) ⌝ }
     ensures { λ r. ⌜ r ≡ stepOf (mesh.stepTo home (mesh.through mesh.onward (linkOf (getD (now (words .entry)) (links + s) 0)))) ⌝ }
 {
@@ -249,7 +249,7 @@ fn next_corner(words: &[u32], links: usize, home: usize, s: usize) -> Step
 }
 
 // `prev_face`: across the side that comes to it.
-fn prev_corner(words: &[u32], links: usize, home: usize, s: usize) -> Step
+pub fn prev_corner(words: &[u32], links: usize, home: usize, s: usize) -> Step
     requires { ⌜ links + mesh.backward s < length (now words) ⌝ }
     ensures { λ r. ⌜ r ≡ stepOf (mesh.stepTo home (linkOf (getD (now (words .entry)) (links + mesh.backward s) 0))) ⌝ }
 {
@@ -261,7 +261,7 @@ fn prev_corner(words: &[u32], links: usize, home: usize, s: usize) -> Step
 }
 
 // What a walk finds: after so many faces it is back; after so many it is off the rim, with the last corner; or it passes more than there are.
-enum Trip {
+pub enum Trip {
     Closed(usize),
     Ended(usize, usize),
     Long,
@@ -363,7 +363,7 @@ pub fn valence(t: Turn) -> usize
 }
 
 // `next_vert` of the face of corner s: where the side across starts, to which the link word leads; or the next corner, where there is none.
-fn next_vert_at(words: &[u32], corners: usize, links: usize, nf: usize, s: usize) -> u32
+pub fn next_vert_at(words: &[u32], corners: usize, links: usize, nf: usize, s: usize) -> u32
     requires { ⌜ Walkable (now words) links nf s × (corners + 3 * nf ≤ length (now words)) × Mated (now words) corners links nf ⌝ }
     ensures { λ r. ⌜ r ≡ getD (now (words .entry)) (corners + mesh.onward s) 0 ⌝ }
 {
@@ -412,7 +412,7 @@ fn gather_on(
 }
 
 // The first n the other way, in place: with a copy beside them its places would be kept in step all along the walk on.
-fn upend(n: usize, s: &mut [u32])
+pub fn upend(n: usize, s: &mut [u32])
     requires { ⌜ (0 < n) × (n ≤ length (now s)) ⌝ }
     ensures { λ r. ⌜ now (s .exit) ≡ sets (now (s .entry)) 0 (downFrom (now (s .entry)) (n - 1)) ⌝ }
 {

@@ -251,6 +251,7 @@ module _ (w : List ℕ) (at to n v : ℕ) (r : Ready w at to n v) where
         (omega (arith, kids-long)));
     long = long₅;
     rest = λ k h e. rest₅ k h e;
+    kept = λ i k a b. kept₅ i k a b;
   }
     where
       twelve-fold : 3 * (4 * n) ≡ 12 * n
@@ -266,3 +267,12 @@ module _ (w : List ℕ) (at to n v : ℕ) (r : Ready w at to n v) where
           ∙ drop-after wires w₂ (to + 12 * n) k (omega (arith, wires-long))
           ∙ drop-after kids w₁ to k (omega (arith, kids-long))
           ∙ drop-after ms w (at + 6 * n + v) k (omega (arith, ms-long))
+
+      -- no step writes there
+      kept₅ : (i k : ℕ) → (i + k ≤ at + 6 * n + v) ⊎ (at + 9 * n + v ≤ i) → (i + k ≤ to) ⊎ (to + 24 * n + (v + edges) ≤ i) → part i k w₅ ≡ part i k w
+      kept₅ i k a b =
+          part-outside news w₄ (to + 24 * n + v) i k (⊎-elim (λ p. inl (omega arith)) (λ p. inr (omega (arith, news-long))) b)
+          ∙ part-outside olds w₃ (to + 24 * n) i k (⊎-elim (λ p. inl (omega arith)) (λ p. inr (omega (arith, olds-long))) b)
+          ∙ part-outside wires w₂ (to + 12 * n) i k (⊎-elim (λ p. inl (omega arith)) (λ p. inr (omega (arith, wires-long))) b)
+          ∙ part-outside kids w₁ to i k (⊎-elim (λ p. inl (omega arith)) (λ p. inr (omega (arith, kids-long))) b)
+          ∙ part-outside ms w (at + 6 * n + v) i k (⊎-elim (λ p. inl (omega arith)) (λ p. inr (omega (arith, ms-long))) a)

@@ -57,8 +57,10 @@ pub record Ready (w : List ℕ) (at to n v : ℕ) : Type 0 where
   pub small : v + 12 * n + 16 < 4294967296
 
 -- words w₀ in which a mesh stands at `at` have become w, in which the refined mesh stands at `to`; the numbers of its sides stand after the old mesh, and what
--- lies after both is as it was
+-- lies after both is as it was; so is every other part, be it of the old mesh, before or between
 pub record Grown (w₀ w : List ℕ) (at to n v : ℕ) : Type 0 where
   pub holds : Holds w to (refined (meshIn w₀ at n v) (links (meshIn w₀ at n v .faces)))
   pub long : length w ≡ length w₀
   pub rest : (k : ℕ) → at + 9 * n + v ≤ k → to + 24 * n + (v + length (firsts (links (meshIn w₀ at n v .faces)))) ≤ k → drop k w ≡ drop k w₀
+  pub kept : (i k : ℕ) → (i + k ≤ at + 6 * n + v) ⊎ (at + 9 * n + v ≤ i) → (i + k ≤ to) ⊎ (to + 24 * n + (v + length (firsts (links (meshIn w₀ at n v .faces)))) ≤ i)
+      → part i k w ≡ part i k w₀

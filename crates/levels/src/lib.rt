@@ -15,7 +15,7 @@ ghost use Rattle.faces.specs.Words.{linkOf, linksIn};
 ghost use Rattle.levels.specs.Level.{Below, Mutual, childrenBy, firstHalf, secondHalf, twelveWords, linksBy, Ready, Grown};
 
 // Whether side s, with link word w, is the one at which its edge is first met: the side across is no earlier one.
-fn first_met(w: u32, s: u32) -> bool
+pub fn first_met(w: u32, s: u32) -> bool
     ensures { λ r. ⌜ r ≡ isFirst s (linkOf w) ⌝ }
 {
     w == 0 || s < w

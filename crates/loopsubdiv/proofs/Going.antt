@@ -16,9 +16,9 @@ use Rattle.rules.proofs.Growth.{faces-more}
 use Rattle.rules.proofs.Cage.{Accepted, accepted}
 use Rattle.levels.specs.Level.{meshIn, Ready, Grown}
 use Rattle.levels.specs.Moves.{Movable, Placed, edgesIn}
-use Rattle.loopsubdiv.specs.Held.{startOf, Kept, Held, Parts}
-use Rattle.loopsubdiv.proofs.Sizes.{facesOf, levelAt, vertsOf, fits}
-use Rattle.loopsubdiv.proofs.Held.{movable, placed, ready, held-more, more-kept, verts-more, kept-all, kept-then}
+use Rattle.room.specs.Held.{startOf, Kept, Held, Parts}
+use Rattle.room.proofs.Sizes.{facesOf, levelAt, vertsOf, fits}
+use Rattle.room.proofs.Held.{movable, placed, ready, held-more, more-kept, verts-more, kept-all, kept-then}
 
 module _ (𝓝 : Numbers) (l : ℕ) (fs : List ℕ) (xs : List (𝓝 .N)) (half third : ℕ) (w₀ : List ℕ) (x₀ : List (𝓝 .N)) where
   pub record Going (i n v : ℕ) (w : List ℕ) (x : List (𝓝 .N)) : Type 0 where

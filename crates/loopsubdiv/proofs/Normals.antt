@@ -15,8 +15,8 @@ use Rattle.rules.specs.Tangents.{normalAt, normals}
 use Rattle.rules.proofs.Spokes.{length-positions}
 use Rattle.faces.specs.Words.{Holds}
 use Rattle.tangents.specs.Normals.{Smooth, normalIn}
-use Rattle.loopsubdiv.specs.Held.{startOf, halfOf, Planned}
-use Rattle.loopsubdiv.proofs.Last.{last-movable, last-mesh}
+use Rattle.room.specs.Held.{startOf, halfOf, Planned}
+use Rattle.room.proofs.Last.{last-movable, last-mesh}
 
 module _ (l : ℕ) (fs : List ℕ) (xs : List Float) (n v : ℕ) (p : Planned single l fs xs n v) where
   long : length (positions single (last single l fs xs)) ≡ 3 * v

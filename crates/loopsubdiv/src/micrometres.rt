@@ -1,5 +1,4 @@
 // The whole engine, once the checks are passed.
-use crate::room;
 use faces::VertNo;
 use weights::Stage;
 use weights::micrometres::Whole3;
@@ -19,7 +18,7 @@ ghost use Rattle.rules.proofs.Range.{AllNear};
 ghost use Rattle.levels.specs.Level.{meshIn};
 ghost use Rattle.levels.specs.Moves.{Movable};
 ghost use Rattle.weights.specs.Lent.{lowered, Raised3};
-ghost use Rattle.loopsubdiv.specs.Held.{halfOf, thirdOf, Kept, Held, Parts, Planned};
+ghost use Rattle.room.specs.Held.{halfOf, thirdOf, Kept, Held, Parts, Planned};
 
 // Vertex u of the mesh that stands at `at`, whose coordinates are xs.
 fn limit_at(words: &[u32], at: usize, nf: usize, nv: usize, xs: &[i32], u: usize) -> Whole3

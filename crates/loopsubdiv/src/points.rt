@@ -1,5 +1,4 @@
 // The f32 engine, once the checks are passed. It differs from the whole engine in its number type and in its normals.
-use crate::room;
 use faces::VertNo;
 use vectors::Vec3;
 use weights::Stage;
@@ -18,7 +17,7 @@ ghost use Rattle.rules.specs.Tangents.{normals as normalsOf};
 ghost use Rattle.levels.specs.Level.{meshIn};
 ghost use Rattle.levels.specs.Moves.{Movable};
 ghost use Rattle.weights.specs.Lent.{listed};
-ghost use Rattle.loopsubdiv.specs.Held.{halfOf, thirdOf, Kept, Held, Parts, Planned};
+ghost use Rattle.room.specs.Held.{halfOf, thirdOf, Kept, Held, Parts, Planned};
 
 // Vertex u of the mesh that stands at `at`, whose coordinates are xs.
 fn limit_at(words: &[u32], at: usize, nf: usize, nv: usize, xs: &[f32], u: usize) -> Vec3

@@ -1,6 +1,6 @@
 // For C (plates.h): the public calls over numbers and slices, with numbers for the answer: document 01's five, the writer's three, and one for a batch. Each promises all that the call below it does.
 ghost use mathlib.Core.Path.{_≡_};
-ghost use Rattle.rules.specs.Calls.{given, lent, buffers, WholeCall, SingleCall, SheetCall, Told};
+ghost use Rattle.rules.specs.Calls.{given, lent, buffers, SharpCall, SingleCall, SheetCall, Told};
 ghost use Rattle.writer.specs.Writing.{writtenAnswer, WriteTold};
 ghost use Rattle.alphabet.specs.Sheets.{SheetsCall};
 use writer::Written;
@@ -10,16 +10,26 @@ pub extern "C" fn plates_loop_subdivide_whole(
     levels: u32,
     indices: &[u32],
     coords: &[i32],
+    sharp: &[u32],
     positions: &mut [i32],
     out: &mut [u32],
     words: &mut [u32],
     work: &mut [i32],
     told: &mut [u32; 5],
 )
-    ensures { λ r. ⌜ Told (WholeCall levels (given indices) (given coords) (buffers positions out words work)) (now (told .exit)) ⌝ }
+    ensures { λ r. ⌜ Told (SharpCall levels (given sharp) (given indices) (given coords) (buffers positions out words work)) (now (told .exit)) ⌝ }
 {
     rules::tell(
-        loopsubdiv::loop_subdivide_whole(levels, indices, coords, positions, out, words, work),
+        loopsubdiv::loop_subdivide_whole(
+            levels,
+            indices,
+            coords,
+            sharp,
+            positions,
+            out,
+            words,
+            work,
+        ),
         told,
     );
 }

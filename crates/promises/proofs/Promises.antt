@@ -13,7 +13,7 @@ use Rattle.lists.proofs.Stores.{part-of, getD-within}
 use Rattle.whole.specs.Fraction.{Within}
 use Rattle.rules.specs.Mesh.{Mesh, links, rims, cage}
 use Rattle.rules.specs.Position.{Numbers, whole, single, exact}
-use Rattle.rules.specs.Levels.{Level, coord, first, last, positions, exactLimits, Sizes, sizes, after}
+use Rattle.rules.specs.Levels.{coord, first, last, positions, exactLimits, Sizes, sizes, after}
 use Rattle.rules.specs.Sheets.{badSheet, sheetLevels, sheetIndices, sheetCoords, sheetOutcome}
 use Rattle.rules.specs.Tangents.{normals}
 use Rattle.rules.specs.Answers.{answer, counted, unless, outcome, written, zeroed, workWords, workCoords}
@@ -29,7 +29,7 @@ use Rattle.rules.proofs.Levels.{level, sound-level, mesh-levels, counts-level, 
 use Rattle.rules.proofs.Related.{same-mesh}
 use Rattle.rules.proofs.Spokes.{length-positions}
 use Rattle.loopsubdiv.proofs.Outcomes.{Done, done, WholeRoom, whole-room, single-room}
-use Rattle.rules.specs.Calls.{Lent, Buffers, Call, wholeRoom, WholeCall, singleRoom, SingleCall, sheetLast, SheetCall, Told}
+use Rattle.rules.specs.Calls.{Lent, Buffers, Final, final, Call, wholeRoom, WholeCall, singleRoom, SingleCall, sheetLast, SheetCall, Told}
 
 same : {N : Type 0} {a b : Buffers N} → a .positions ≡ b .positions → a .indices ≡ b .indices → a .words ≡ b .words → a .work ≡ b .work → a ≡ b
 same {N} {a} {b} p i w k =
@@ -39,34 +39,34 @@ same {N} {a} {b} p i w k =
     ∙ ap {B = Buffers N} (λ z. record { positions = b .positions; indices = b .indices; words = b .words; work = z }) k
 
 -- an entry of what is written at the front of a buffer that has room for it
-stands : {A : Type 0} (front old : List A) (n i : ℕ) (d : A) → length front ≡ n → n ≤ length old → i < n → getD (sets old 0 front) i d ≡ getD front i d
+pub stands : {A : Type 0} (front old : List A) (n i : ℕ) (d : A) → length front ≡ n → n ≤ length old → i < n → getD (sets old 0 front) i d ≡ getD front i d
 stands front old n i d e h k = let z : 0 + i ≡ i = omega arith in rw z at (getD-within front old 0 i d (omega arith) (omega arith))
 
 -- ---- any call: of either engine, of a sheet
 
-module _ (𝓝 : Numbers) (a : Level 𝓝) where
+module _ (𝓝 : Numbers) (m : Final (𝓝 .N)) where
   -- the two are asked the same of the same buffers
-  agree : (o p : Buffers (𝓝 .N) → Outcome) (b d : Lent (Buffers (𝓝 .N))) (r q : Outcome) → o (b .old) ≡ p (d .old) → b .old ≡ d .old → Call 𝓝 o a b r → Call 𝓝 p a d q → r ≡ q × b .new ≡ d .new
+  agree : (o p : Buffers (𝓝 .N) → Outcome) (b d : Lent (Buffers (𝓝 .N))) (r q : Outcome) → o (b .old) ≡ p (d .old) → b .old ≡ d .old → Call 𝓝 o m b r → Call 𝓝 p m d q → r ≡ q × b .new ≡ d .new
   agree o p b d r q asked lent c k =
       let e : r ≡ q = c .answer ∙ asked ∙ sym (k .answer) in (
         e,
         same
-            (c .positions ∙ ap {B = List (𝓝 .N)} (λ x. written x (positions 𝓝 a) (b .old .positions)) e ∙ ap {B = List (𝓝 .N)} (λ (x : Buffers (𝓝 .N)). written q (positions 𝓝 a) (x .positions)) lent ∙ sym (k .positions))
-            (c .indices ∙ ap {B = List ℕ} (λ x. written x (a .mesh .faces) (b .old .indices)) e ∙ ap {B = List ℕ} (λ (x : Buffers (𝓝 .N)). written q (a .mesh .faces) (x .indices)) lent ∙ sym (k .indices))
+            (c .positions ∙ ap {B = List (𝓝 .N)} (λ x. written x (m .positions) (b .old .positions)) e ∙ ap {B = List (𝓝 .N)} (λ (x : Buffers (𝓝 .N)). written q (m .positions) (x .positions)) lent ∙ sym (k .positions))
+            (c .indices ∙ ap {B = List ℕ} (λ x. written x (m .faces) (b .old .indices)) e ∙ ap {B = List ℕ} (λ (x : Buffers (𝓝 .N)). written q (m .faces) (x .indices)) lent ∙ sym (k .indices))
             (c .words ∙ ap {B = List ℕ} (λ x. zeroed x 0 workWords (b .old .words)) e ∙ ap {B = List ℕ} (λ (x : Buffers (𝓝 .N)). zeroed q 0 workWords (x .words)) lent ∙ sym (k .words))
             (c .work ∙ ap {B = List (𝓝 .N)} (λ x. zeroed x (𝓝 .nought) workCoords (b .old .work)) e ∙ ap {B = List (𝓝 .N)} (λ (x : Buffers (𝓝 .N)). zeroed q (𝓝 .nought) workCoords (x .work)) lent ∙ sym (k .work)),
       )
 
   module _ (o : Buffers (𝓝 .N) → Outcome) where
     -- two outcomes that are allowed are one, if the same is lent
-    pub one-outcome : (b d : Lent (Buffers (𝓝 .N))) (r q : Outcome) → b .old ≡ d .old → Call 𝓝 o a b r → Call 𝓝 o a d q → r ≡ q × b .new ≡ d .new
+    pub one-outcome : (b d : Lent (Buffers (𝓝 .N))) (r q : Outcome) → b .old ≡ d .old → Call 𝓝 o m b r → Call 𝓝 o m d q → r ≡ q × b .new ≡ d .new
     one-outcome b d r q lent c k = agree o o b d r q (ap {B = Outcome} (λ x. o x) lent) lent c k
 
     -- every call has an outcome that is allowed, whatever is lent
     pub record Answered (old : Buffers (𝓝 .N)) : Type 0 where
       pub answer : Outcome
       pub new : Buffers (𝓝 .N)
-      pub call : Call 𝓝 o a (record { old = old; new = new }) answer
+      pub call : Call 𝓝 o m (record { old = old; new = new }) answer
 
     pub every-call-answers : (old : Buffers (𝓝 .N)) → Answered old
     every-call-answers old =
@@ -74,15 +74,15 @@ module _ (𝓝 : Numbers) (a : Level 𝓝) where
         record {
           answer = r;
           new = record {
-            positions = written r (positions 𝓝 a) (old .positions);
-            indices = written r (a .mesh .faces) (old .indices);
+            positions = written r (m .positions) (old .positions);
+            indices = written r (m .faces) (old .indices);
             words = zeroed r 0 workWords (old .words);
             work = zeroed r (𝓝 .nought) workCoords (old .work);
           };
           call = record { answer = refl; positions = refl; indices = refl; words = refl; work = refl };
         }
 
-    pub refusal-writes-nothing : (b : Lent (Buffers (𝓝 .N))) (r : Refusal) → Call 𝓝 o a b (Refused r) → b .new ≡ b .old
+    pub refusal-writes-nothing : (b : Lent (Buffers (𝓝 .N))) (r : Refusal) → Call 𝓝 o m b (Refused r) → b .new ≡ b .old
     refusal-writes-nothing b r c = same (c .positions) (c .indices) (c .words) (c .work)
 
 -- ---- for C: where two outcomes that are allowed are one, they are told alike
@@ -95,7 +95,7 @@ one-outcome-told P Q X one told also c d =
 -- ---- a call of either engine that succeeds
 
 module _ (𝓝 : Numbers) (rooms : Buffers (𝓝 .N) → Counts → List Room) (l : ℕ) (fs : List ℕ) (xs : List (𝓝 .N)) (b : Lent (Buffers (𝓝 .N))) (c : Counts)
-    (call : Call 𝓝 (λ old. outcome 𝓝 (rooms old) l fs xs) (last 𝓝 l fs xs) b (Success c)) where
+    (call : Call 𝓝 (λ old. outcome 𝓝 (rooms old) l fs xs) (final 𝓝 (last 𝓝 l fs xs)) b (Success c)) where
   abbrev control : Mesh
   control = cage (length xs / 3) fs
 
@@ -138,7 +138,7 @@ module _ (𝓝 : Numbers) (rooms : Buffers (𝓝 .N) → Counts → List Room) (
 -- ---- the whole call
 
 module _ (l : ℕ) (fs : List ℕ) (xs : List ℤ) (b : Lent (Buffers ℤ)) (c : Counts) (call : WholeCall l fs xs b (Success c)) where
-  whole-rooms : WholeRoom (length (b .old .positions)) (length (b .old .indices)) (length (b .old .words)) (length (b .old .work)) c
+  pub whole-rooms : WholeRoom (length (b .old .positions)) (length (b .old .indices)) (length (b .old .words)) (length (b .old .work)) c
   whole-rooms = whole-room (length (b .old .positions)) (length (b .old .indices)) (length (b .old .words)) (length (b .old .work)) c (told whole wholeRoom l fs xs b c call .room)
 
   pub whole-faces : take (3 * c .faces) (b .new .indices) ≡ last whole l fs xs .mesh .faces
@@ -165,7 +165,7 @@ module _ (l : ℕ) (fs : List ℕ) (xs : List Float) where
       ap {B = Outcome} (λ x. outcome single (singleRoom x (b .old)) l fs xs) same-normals
       ∙ ap {B = Outcome} (λ x. outcome single (singleRoom (ms .old) x) l fs xs) lent in
       let o =
-      agree single (last single l fs xs) (λ old. outcome single (singleRoom (ns .old) old) l fs xs) (λ old. outcome single (singleRoom (ms .old) old) l fs xs) b d r q asked lent (c .call) (k .call) in (
+      agree single (final single (last single l fs xs)) (λ old. outcome single (singleRoom (ns .old) old) l fs xs) (λ old. outcome single (singleRoom (ms .old) old) l fs xs) b d r q asked lent (c .call) (k .call) in (
         o .0,
         (
           o .1,
@@ -175,7 +175,7 @@ module _ (l : ℕ) (fs : List ℕ) (xs : List Float) where
       )
 
   pub refusal-writes-no-normals : (b : Lent (Buffers Float)) (ns : Lent (List Float)) (r : Refusal) → SingleCall l fs xs b ns (Refused r) → b .new ≡ b .old × ns .new ≡ ns .old
-  refusal-writes-no-normals b ns r c = (refusal-writes-nothing single (last single l fs xs) (λ old. outcome single (singleRoom (ns .old) old) l fs xs) b r (c .call), c .normals)
+  refusal-writes-no-normals b ns r c = (refusal-writes-nothing single (final single (last single l fs xs)) (λ old. outcome single (singleRoom (ns .old) old) l fs xs) b r (c .call), c .normals)
 
   pub single-faces : (b : Lent (Buffers Float)) (ns : Lent (List Float)) (c : Counts) → SingleCall l fs xs b ns (Success c) → take (3 * c .faces) (b .new .indices) ≡ last single l fs xs .mesh .faces
   single-faces b ns c s =

@@ -19,7 +19,7 @@ grows zero s = omega arith
 grows (suc l) s = let h = grows l (record { verts = s .verts + s .edges; faces = 4 * s .faces; edges = 2 * s .edges + 3 * s .faces }) in omega (arith, h)
 
 -- the vertices of the cage are the first of the plate
-control-first : (l : ℕ) (fs : List ℕ) (xs : List ℤ) (b : Lent (Buffers ℤ)) (c : Counts) → WholeCall l fs xs b (Success c) → (v : ℕ) → v < length xs / 3 → v < c .vertices
+pub control-first : (l : ℕ) (fs : List ℕ) (xs : List ℤ) (b : Lent (Buffers ℤ)) (c : Counts) → WholeCall l fs xs b (Success c) → (v : ℕ) → v < length xs / 3 → v < c .vertices
 unfolding cage
 control-first l fs xs b c call v h = omega (arith, final-counts whole wholeRoom l fs xs b c call .0, grows l (sizes (cage (length xs / 3) fs)))
 

@@ -19,7 +19,7 @@ use Rattle.rules.proofs.Related.{Keeps, related-positions}
 
 -- ---- the rules, one by one
 
-close-as : {d e : ℕ} {x : ℤ} {y : Fraction} → d ≡ e → Close d x y → Close e x y
+pub close-as : {d e : ℕ} {x : ℤ} {y : Fraction} → d ≡ e → Close d x y → Close e x y
 close-as q c = rw q at c
 
 close-more : {e : ℕ} {x : ℤ} {y : Fraction} → Close e x y → Close (suc e) x y
@@ -50,7 +50,7 @@ keeps-close round N =
 
 -- ---- the whole of it, from equal control points
 
-control : (xs : List ℤ) → Pairs (Close 0) xs (map ofWhole xs)
+pub control : (xs : List ℤ) → Pairs (Close 0) xs (map ofWhole xs)
 control [] = nil
 control (x ∷ xs) = cons (close-whole x) (control xs)
 

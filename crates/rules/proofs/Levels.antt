@@ -46,7 +46,7 @@ unfoldable pub carried : ℕ → ℕ → Linked → Linked
 carried zero n a = a
 carried (suc l) n a = carried l (4 * n) (record { mesh = refined (a .mesh) (a .links); links = grown n (a .links) })
 
-refined-faces : (n : ℕ) (m : Mesh) → Sound n m → refined m (links (m .faces)) .faces ≡ finerOf (m .verts) n (m .faces)
+pub refined-faces : (n : ℕ) (m : Mesh) → Sound n m → refined m (links (m .faces)) .faces ≡ finerOf (m .verts) n (m .faces)
 unfolding refined
 refined-faces n m w =
     let a : length (m .faces) / 3 ≡ n = omega (arith, w .good .size) in

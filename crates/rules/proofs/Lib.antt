@@ -21,3 +21,7 @@ pub mod Related
 pub mod Bound
 pub mod Range
 pub mod Settled
+pub mod Sharp
+pub mod Both
+pub mod Marked
+pub mod SharpSettled

@@ -45,7 +45,7 @@ up-as : {v w : ℕ} {x : ℤ} → v ≡ w → UpTo v x → UpTo w x
 up-as e h = rw e at h
 
 -- one coordinate by itself, as a relation of two
-abbrev In : ℤ → ℤ → Type 0
+abbrev pub In : ℤ → ℤ → Type 0
 In x y = Near x
 
 up-sum : {xs ys : List ℤ} → Pairs In xs ys → UpTo (length xs) (sum xs)
@@ -77,13 +77,13 @@ module _ (round : ℤ → ℕ → ℤ) (N : Rounds round) where
 pub record AllNear (xs : List ℤ) : Type 0 where
   pub at : (i : ℕ) → Near (getD xs i (pos 0))
 
-paired : {xs : List ℤ} → AllNear xs → Pairs In xs xs
+pub paired : {xs : List ℤ} → AllNear xs → Pairs In xs xs
 paired {xs} h = pairs-of In (pos 0) (pos 0) xs xs refl (λ i k. h .at i)
 
-unpaired : {xs ys : List ℤ} → Pairs In xs ys → AllNear xs
+pub unpaired : {xs ys : List ℤ} → Pairs In xs ys → AllNear xs
 unpaired p = record { at = λ i. pairs-at In (pos 0) (pos 0) (record { size = omega arith }) p i }
 
-abbrev keeps : Keeps whole whole (λ e. In)
+abbrev pub keeps : Keeps whole whole (λ e. In)
 keeps = keeps-range nearest nearest-rounds
 
 pub near-new : (m : Mesh) (ls : List (Option ℕ)) (xs : List ℤ) → AllNear xs → AllNear (newPositions whole m ls xs)

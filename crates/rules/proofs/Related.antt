@@ -16,7 +16,7 @@ use Rattle.rules.proofs.Weights.{AddsUp, ring-adds-up, rim-adds-up}
 
 -- ---- a fan that ends has one corner at least, so every rule has weights that add up
 
-data Filled : Fan → Type 0 where
+pub data Filled : Fan → Type 0 where
   round : {x : ℕ} {cs : List ℕ} → Filled (inner (x ∷ cs))
   fringe : {x : ℕ} {cs : List ℕ} → Filled (rim (x ∷ cs))
   lost : Filled endless
@@ -38,7 +38,7 @@ filled-by : (ls : List (Option ℕ)) (s n : ℕ) → Filled (fanOf ls n (passed 
 filled-by ls s zero = lost
 filled-by ls s (suc n) = let w = walk (nextCorner ls s) n (nextCorner ls s s) in filled-of ls n s (passed w) (stopOf w)
 
-filled : (ls : List (Option ℕ)) (s : ℕ) → Filled (fan ls s)
+pub filled : (ls : List (Option ℕ)) (s : ℕ) → Filled (fan ls s)
 unfolding fan
 filled ls s = filled-by ls s (length ls / 3)
 
@@ -56,10 +56,10 @@ module _ (𝓝 𝓜 : Numbers) (R : ℕ → 𝓝 .N → 𝓜 .N → Type 0) (K :
   -- ---- one level, and the limit
 
   module _ (e : ℕ) (xs : List (𝓝 .N)) (ys : List (𝓜 .N)) (p : Pairs (R e) xs ys) where
-    at : (c v : ℕ) → R e (coord 𝓝 xs c v) (coord 𝓜 ys c v)
+    pub at : (c v : ℕ) → R e (coord 𝓝 xs c v) (coord 𝓜 ys c v)
     at c v = pairs-at (R e) (𝓝 .nought) (𝓜 .nought) (K .nought e) p (3 * v + c)
 
-    of-fan : (s : Stage) (fs : List ℕ) (v : ℕ) (f : Fan) → Filled f → (c : ℕ) → R (suc e) (blended 𝓝 s fs xs v f c) (blended 𝓜 s fs ys v f c)
+    pub of-fan : (s : Stage) (fs : List ℕ) (v : ℕ) (f : Fan) → Filled f → (c : ℕ) → R (suc e) (blended 𝓝 s fs xs v f c) (blended 𝓜 s fs ys v f c)
     of-fan s fs v _ (round {x} {cs}) c =
         let vs = ring fs (inner (x ∷ cs)) in
         let a : length (map (coord 𝓝 xs c) vs) ≡ suc (length cs) = length-map vs (coord 𝓝 xs c) ∙ length-map (x ∷ cs) (λ s. corner fs (onward s)) in
@@ -68,14 +68,14 @@ module _ (𝓝 𝓜 : Numbers) (R : ℕ → 𝓝 .N → 𝓜 .N → Type 0) (K :
         K .blend (rimRule s) (rim-adds-up s) (at c v) (pairs-map (R e) (coord 𝓝 xs c) (coord 𝓜 ys c) (at c) (ends (ring fs (rim (x ∷ cs)))))
     of-fan s fs v _ lost c = K .more (at c v)
 
-    of-three : (f : ℕ → 𝓝 .N) (g : ℕ → 𝓜 .N) → ((c : ℕ) → R (suc e) (f c) (g c)) → Pairs (R (suc e)) (three 𝓝 f) (three 𝓜 g)
+    pub of-three : (f : ℕ → 𝓝 .N) (g : ℕ → 𝓜 .N) → ((c : ℕ) → R (suc e) (f c) (g c)) → Pairs (R (suc e)) (three 𝓝 f) (three 𝓜 g)
     of-three f g h = cons (h 0) (cons (h 1) (cons (h 2) nil))
 
     pub related-moved : (s : Stage) (m : Mesh) (ls : List (Option ℕ)) (v : ℕ) → Pairs (R (suc e)) (moved 𝓝 s m ls xs v) (moved 𝓜 s m ls ys v)
     unfolding moved
     related-moved s m ls v = let f = fan ls (getD (m .starts) v 0) in of-three _ _ (of-fan s (m .faces) v f (filled ls (getD (m .starts) v 0)))
 
-    of-edge : (fs : List ℕ) (s : ℕ) (o : Option ℕ) (c : ℕ) → R (suc e) (edgeAt 𝓝 fs xs s o c) (edgeAt 𝓜 fs ys s o c)
+    pub of-edge : (fs : List ℕ) (s : ℕ) (o : Option ℕ) (c : ℕ) → R (suc e) (edgeAt 𝓝 fs xs s o c) (edgeAt 𝓜 fs ys s o c)
     of-edge fs s none c = K .halves (at c _) (at c _)
     of-edge fs s (some t) c = K .eighths (at c _) (at c _) (at c _) (at c _)
 

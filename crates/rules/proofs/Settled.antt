@@ -110,7 +110,7 @@ spoke-sum : (a : ℕ) (f g h k : ℕ → ℕ) (cs : List ℕ) → ((i : ℕ) →
 spoke-sum a f g h k [] e = omega arith
 spoke-sum a f g h k (x ∷ cs) e = omega (arith, e 0 (suc-le-suc zero-le), spoke-sum a f g h k cs (λ i l. e (suc i) (suc-le-suc l)))
 
-≈F-as : {a b x y : Fraction} → a ≡ x → b ≡ y → x ≈F y → a ≈F b
+pub ≈F-as : {a b x y : Fraction} → a ≡ x → b ≡ y → x ≈F y → a ≈F b
 ≈F-as p q h = rw (p, q) h
 
 module _ (n : ℕ) (m : Mesh) (w : Sound n m) (ys : List Fraction) (C : Common ys) (c : ℕ) (axis : c < 3) where
@@ -347,7 +347,7 @@ pub exact-stays : (l : ℕ) (fs : List ℕ) (xs : List ℤ) → Sound (length fs
 unfolding levels cage
 exact-stays l fs xs w v c h k = limits-stay l (length fs / 3) (first exact fs (map ofWhole xs)) (rw (length-map xs ofWhole) w) v c (rw (length-map xs ofWhole) h) k
 
-gap : {e : ℕ} (x z : ℤ) → Close e x (ofWhole z) → natAbs (x -ℤ z) * 2 ≤ e
+pub gap : {e : ℕ} (x z : ℤ) → Close e x (ofWhole z) → natAbs (x -ℤ z) * 2 ≤ e
 unfolding ofWhole
 gap x z c = abs2-le (is-minus (is-self x) (is-self z)) (omega (arith, c .near .hi)) (omega (arith, c .near .lo))
 

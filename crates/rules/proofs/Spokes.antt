@@ -48,7 +48,7 @@ module _ (v n : ℕ) (fs : List ℕ) (g : Good v n fs) where
 
 -- ---- coordinates after a level, by vertex and axis
 
-three-at : (𝓝 : Numbers) (f : ℕ → 𝓝 .N) (c : ℕ) → c < 3 → getD (three 𝓝 f) c (𝓝 .nought) ≡ f c
+pub three-at : (𝓝 : Numbers) (f : ℕ → 𝓝 .N) (c : ℕ) → c < 3 → getD (three 𝓝 f) c (𝓝 .nought) ≡ f c
 three-at 𝓝 f zero h = refl
 three-at 𝓝 f (suc zero) h = refl
 three-at 𝓝 f (suc (suc zero)) h = refl

@@ -12,6 +12,7 @@ use Rattle.rules.specs.Levels.{Level, last, positions as positionsOf}
 use Rattle.rules.specs.Tangents.{normals as normalsOf}
 use Rattle.rules.specs.Refusals.{Room}
 use Rattle.rules.specs.Answers.{answer, outcome, wholeRooms, singleRooms, written, zeroed, workWords, workCoords}
+use Rattle.rules.specs.Sharp.{sharpLast, sharpPositions, sharpOutcome}
 use Rattle.rules.specs.Sheets.{sheetLevels, sheetIndices, sheetCoords, sheetOutcome}
 use Rattle.rules.specs.declared.Counts.{Counts}
 use Rattle.rules.specs.declared.Outcome.{Outcome}
@@ -42,28 +43,43 @@ buffers ps is ws cs =
       new = record { positions = now (ps .exit); indices = now (is .exit); words = now (ws .exit); work = now (cs .exit) };
     }
 
--- ---- the promise: the answer r is what o says of the buffers as they are lent, and they are left with the level a, or as they were
+-- what success writes: limit positions, and faces; those of a level
+pub record Final (N : Type 0) : Type 0 where
+  pub positions : List N
+  pub faces : List ℕ
 
-pub record Call (𝓝 : Numbers) (o : Buffers (𝓝 .N) → Outcome) (a : Level 𝓝) (b : Lent (Buffers (𝓝 .N))) (r : Outcome) : Type 0 where
+abbrev pub final : (𝓝 : Numbers) → Level 𝓝 → Final (𝓝 .N)
+final 𝓝 a = record { positions = positionsOf 𝓝 a; faces = a .mesh .faces }
+
+-- ---- the promise: the answer r is what o says of the buffers as they are lent, and they are left with the final mesh m, or as they were
+
+pub record Call (𝓝 : Numbers) (o : Buffers (𝓝 .N) → Outcome) (m : Final (𝓝 .N)) (b : Lent (Buffers (𝓝 .N))) (r : Outcome) : Type 0 where
   pub answer : r ≡ o (b .old)
-  pub positions : b .new .positions ≡ written r (positionsOf 𝓝 a) (b .old .positions)
-  pub indices : b .new .indices ≡ written r (a .mesh .faces) (b .old .indices)
+  pub positions : b .new .positions ≡ written r (m .positions) (b .old .positions)
+  pub indices : b .new .indices ≡ written r (m .faces) (b .old .indices)
   pub words : b .new .words ≡ zeroed r 0 workWords (b .old .words)
   pub work : b .new .work ≡ zeroed r (𝓝 .nought) workCoords (b .old .work)
 
--- `loop_subdivide_whole`: levels, face list, coordinates
+-- `loop_subdivide_whole`: levels, list of sharp sides, face list, coordinates. Marks move points and no face
 abbrev pub wholeRoom : Buffers ℤ → Counts → List Room
 wholeRoom b = wholeRooms (length (b .positions)) (length (b .indices)) (length (b .words)) (length (b .work))
 
+abbrev pub sharpFinal : ℕ → List ℕ → List ℕ → List ℤ → Final ℤ
+sharpFinal l sharp fs xs = record { positions = sharpPositions whole (sharpLast whole l sharp fs xs); faces = last whole l fs xs .mesh .faces }
+
+abbrev pub SharpCall : ℕ → List ℕ → List ℕ → List ℤ → Lent (Buffers ℤ) → Outcome → Type 0
+SharpCall l sharp fs xs b r = Call whole (λ old. sharpOutcome whole (wholeRoom old) l sharp fs xs) (sharpFinal l sharp fs xs) b r
+
+-- that with no side listed, by document 01 alone
 abbrev pub WholeCall : ℕ → List ℕ → List ℤ → Lent (Buffers ℤ) → Outcome → Type 0
-WholeCall l fs xs b r = Call whole (λ old. outcome whole (wholeRoom old) l fs xs) (last whole l fs xs) b r
+WholeCall l fs xs b r = Call whole (λ old. outcome whole (wholeRoom old) l fs xs) (final whole (last whole l fs xs)) b r
 
 -- `loop_subdivide`, which has normals too
 abbrev pub singleRoom : List Float → Buffers Float → Counts → List Room
 singleRoom ns b = singleRooms (length (b .positions)) (length ns) (length (b .indices)) (length (b .words)) (length (b .work))
 
 pub record SingleCall (l : ℕ) (fs : List ℕ) (xs : List Float) (b : Lent (Buffers Float)) (ns : Lent (List Float)) (r : Outcome) : Type 0 where
-  pub call : Call single (λ old. outcome single (singleRoom (ns .old) old) l fs xs) (last single l fs xs) b r
+  pub call : Call single (λ old. outcome single (singleRoom (ns .old) old) l fs xs) (final single (last single l fs xs)) b r
   pub normals : ns .new ≡ written r (normalsOf (last single l fs xs)) (ns .old)
 
 -- `subdivide_sheet`: the last level of the sheet's lists
@@ -71,7 +87,7 @@ abbrev pub sheetLast : List ℕ → Level whole
 sheetLast bytes = last whole (sheetLevels bytes) (sheetIndices bytes) (sheetCoords bytes)
 
 abbrev pub SheetCall : List ℕ → Lent (Buffers ℤ) → Outcome → Type 0
-SheetCall bytes b r = Call whole (λ old. sheetOutcome (wholeRoom old) bytes) (sheetLast bytes) b r
+SheetCall bytes b r = Call whole (λ old. sheetOutcome (wholeRoom old) bytes) (final whole (sheetLast bytes)) b r
 
 -- for C: an outcome that the call allows, told as the paper's five numbers
 pub record Told (call : Outcome → Type 0) (told : List ℕ) : Type 0 where

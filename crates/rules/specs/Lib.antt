@@ -4,7 +4,9 @@ pub mod Levels
 pub mod Tangents
 pub mod Refusals
 pub mod Answers
+pub mod Sharp
 pub mod Sheets
 pub mod Calls
 pub mod Cases
+pub mod SharpCases
 pub mod Orders

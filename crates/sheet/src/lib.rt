@@ -7,7 +7,7 @@ ghost use lib.Seq.{sets};
 ghost use Rattle.rules.specs.Sheets.{wordAt, wordsOf, coordsOf, vertexBlock, faceBlock};
 ghost use Rattle.rules.specs.Sheets.{signed as signedOf};
 ghost use Rattle.sheet.specs.Reading.{sheetOf, vertexBytes, faceBytes};
-ghost use Rattle.rules.specs.Calls.{given, buffers, SheetCall};
+ghost use Rattle.rules.specs.Calls.{given, buffers, WholeCall, SheetCall};
 use cage::Check;
 use rules::Outcome;
 use rules::Refusal;
@@ -141,6 +141,30 @@ pub fn coords_from(b: &[u8], n: usize, s: &mut [i32])
     }
 }
 
+// The whole engine with no sharp edges: a sheet has no marks.
+fn smooth(
+    levels: u32,
+    indices: &[u32],
+    coords: &[i32],
+    positions: &mut [i32],
+    out: &mut [u32],
+    words: &mut [u32],
+    work: &mut [i32],
+) -> Outcome
+    ensures { λ r. ⌜ WholeCall levels (given indices) (given coords) (buffers positions out words work) r ⌝ }
+{
+    loopsubdiv::loop_subdivide_whole(
+        levels,
+        indices,
+        coords,
+        &indices[..0],
+        positions,
+        out,
+        words,
+        work,
+    )
+}
+
 // The whole engine on the lists of a sheet, which checks 1 and 3 keep within local arrays.
 fn subdivide_lists(
     bytes: &[u8],
@@ -161,7 +185,7 @@ fn subdivide_lists(
     let nw = 3 * faces;
     let mut indices = [0u32; 12288];
     words_from(face_block(bytes), nw, &mut indices);
-    loopsubdiv::loop_subdivide_whole(
+    smooth(
         levels,
         &indices[..nw],
         &coords[..nc],

@@ -33,17 +33,17 @@ module _ (𝓝 : Numbers) (s : Stage) (fs : List ℕ) (xs : List (𝓝 .N)) (u :
   by-fan (rim cs) e c = refl
   by-fan endless e c = absurd (e refl)
 
-  three-by : (f g : ℕ → 𝓝 .N) → ((c : ℕ) → f c ≡ g c) → three 𝓝 f ≡ three 𝓝 g
+  pub three-by : (f g : ℕ → 𝓝 .N) → ((c : ℕ) → f c ≡ g c) → three 𝓝 f ≡ three 𝓝 g
   three-by f g e = rw (e 0, e 1, e 2)
 
 -- ---- a ring of a fan that turns round its vertex
 
 module _ (v n : ℕ) (fs : List ℕ) (g : Good v n fs) (s : ℕ) where
-  filled : (f : Fan) → Turned n fs s f → 0 < length (ring fs f)
+  pub filled : (f : Fan) → Turned n fs s f → 0 < length (ring fs f)
   filled _ (round cs r) = rw (length-map cs (λ (x : ℕ). corner fs (onward x))) (r .filled)
   filled _ (fringe cs r) = omega arith
 
-  below : (f : Fan) → Turned n fs s f → (k : ℕ) → k < length (ring fs f) → getD (ring fs f) k 0 < v
+  pub below : (f : Fan) → Turned n fs s f → (k : ℕ) → k < length (ring fs f) → getD (ring fs f) k 0 < v
   below _ (round cs r) k h =
       let l : k < length cs = omega (arith, length-map cs (λ (x : ℕ). corner fs (onward x))) in
       rw (getD-map (λ (x : ℕ). corner fs (onward x)) cs k 0 0 l) (g .below (onward (getD cs k 0)) (on-below (getD cs k 0) n (r .corners .below k l)))
@@ -67,7 +67,7 @@ pub there : {xs : List Float} {v u : ℕ} → 3 * v ≤ length xs → u < v → 
 there l h = record { room = omega arith }
 
 module _ (n : ℕ) (m : Mesh) (p : Sound n m) (few : Small 16 m) (u : ℕ) (h : u < m .verts) where
-  turns : Turned n (m .faces) (getD (m .starts) u 0) (fanAt m u)
+  pub turns : Turned n (m .faces) (getD (m .starts) u 0) (fanAt m u)
   turns = turned (m .verts) n (m .faces) (p .good) (getD (m .starts) u 0) (p .below u h)
 
   pub ring-filled : 0 < length (ringAt m u)
@@ -77,7 +77,7 @@ module _ (n : ℕ) (m : Mesh) (p : Sound n m) (few : Small 16 m) (u : ℕ) (h : 
   unfolding Small
   ring-few = rw (length-ring (m .faces) (fanAt m u)) (few u h)
 
-  ring-below : (k : ℕ) → k < length (ringAt m u) → getD (ringAt m u) k 0 < m .verts
+  pub ring-below : (k : ℕ) → k < length (ringAt m u) → getD (ringAt m u) k 0 < m .verts
   ring-below k l = below (m .verts) n (m .faces) (p .good) (getD (m .starts) u 0) (fanAt m u) turns k l
 
   pub ring-readable : {xs : List ℤ} → 3 * m .verts ≤ length xs → AllNear xs → AllReadable xs (ringAt m u)

@@ -91,7 +91,7 @@ impl Whole3 {
     }
 }
 
-fn at(xs: &[i32], v: VertNo, c: usize) -> u64
+pub fn at(xs: &[i32], v: VertNo, c: usize) -> u64
     requires { ⌜ (c < 3) × Readable (now xs) (v .0) ⌝ }
     ensures { λ r. ⌜ Stands r 1 (coord whole (now (xs .entry)) c (v .0)) ⌝ }
 {

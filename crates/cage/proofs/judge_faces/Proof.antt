@@ -16,10 +16,10 @@ use borrow.Author.Needs.{needs}
 use Rattle.cage.proofs.judge_faces.Statement.{statement}
 use Rattle.cage.proofs.judge_faces.Tie as tie
 
-five : (l v : ℕ) (fs : List ℕ) →
-    unless (fromFive l v fs) (Success (cageCounts l v fs))
-    ≡ unless (check 5 (find (λ u. leb v u) fs) orElse (check 6 (lowest (equalCorners fs) (length fs / 3)) orElse fromSeven l v fs)) (Success (cageCounts l v fs))
-five l v fs = ap (λ (r : Option Refusal). unless r (Success (cageCounts l v fs))) (five-first l v fs)
+five : (l v : ℕ) (sh fs : List ℕ) →
+    unless (fromFive l v sh fs) (Success (cageCounts l v fs))
+    ≡ unless (check 5 (find (λ u. leb v u) fs) orElse (check 6 (lowest (equalCorners fs) (length fs / 3)) orElse fromSeven l v sh fs)) (Success (cageCounts l v fs))
+five l v sh fs = ap (λ (r : Option Refusal). unless r (Success (cageCounts l v fs))) (five-first l v sh fs)
 
 cast-beyond : tie.Need-cast-beyond
 cast-beyond c = search needs
@@ -44,7 +44,7 @@ enum-told-2 c = search needs
 
 judge-sides-requires : tie.Need-judge-sides-requires
 judge-sides-requires c κs =
-    let s = c .before .before .before .before .before .before .before in
+    let s = c .before .before .before .before .before .before .before .before in
     let fs = now (s .args .indices) in
     let e = sym (c .before .before .before .before .before .beyond .ensures) ∙ c .before .before .before .enum-told .given .1 in
     let q = sym (c .before .before .flat .ensures) ∙ c .enum-told2 .given .1 in
@@ -52,26 +52,26 @@ judge-sides-requires c κs =
 
 returns : tie.Need-returns
 returns c =
-    let a = c .before .before .before .before .before .args in
+    let a = c .before .before .before .before .before .before .args in
     let fs = now (a .indices) in
-    unless-no (check 5 (find (λ u. leb (a .v) u) fs)) (check 6 (lowest (equalCorners fs) (length fs / 3)) orElse fromSeven (a .levels) (a .v) fs) (Success (cageCounts (a .levels) (a .v) fs)) _ (sym (c .before .before .before .beyond .ensures) ∙ c .before .x .given .1)
-    ∙ sym (five (a .levels) (a .v) fs)
+    unless-no (check 5 (find (λ u. leb (a .v) u) fs)) (check 6 (lowest (equalCorners fs) (length fs / 3)) orElse fromSeven (a .levels) (a .v) (now (a .sharp)) fs) (Success (cageCounts (a .levels) (a .v) fs)) _ (sym (c .before .before .before .beyond .ensures) ∙ c .before .x .given .1)
+    ∙ sym (five (a .levels) (a .v) (now (a .sharp)) fs)
 
 returns-2 : tie.Need-returns-2
 returns-2 c =
-    let a = c .before .before .before .before .before .before .before .before .args in
+    let a = c .before .before .before .before .before .before .before .before .before .args in
     let fs = now (a .indices) in
-    unless-no (check 6 (lowest (equalCorners fs) (length fs / 3))) (fromSeven (a .levels) (a .v) fs) (Success (cageCounts (a .levels) (a .v) fs)) _ (sym (c .before .before .before .flat .ensures) ∙ c .before .x2 .given .1)
-    ∙ sym (five (a .levels) (a .v) fs ∙ unless-goes (check 5 (find (λ u. leb (a .v) u) fs)) (check 6 (lowest (equalCorners fs) (length fs / 3)) orElse fromSeven (a .levels) (a .v) fs) (Success (cageCounts (a .levels) (a .v) fs)) (sym (c .before .before .before .before .before .before .beyond .ensures) ∙ c .before .before .before .before .enum-told .given .1))
+    unless-no (check 6 (lowest (equalCorners fs) (length fs / 3))) (fromSeven (a .levels) (a .v) (now (a .sharp)) fs) (Success (cageCounts (a .levels) (a .v) fs)) _ (sym (c .before .before .before .flat .ensures) ∙ c .before .x2 .given .1)
+    ∙ sym (five (a .levels) (a .v) (now (a .sharp)) fs ∙ unless-goes (check 5 (find (λ u. leb (a .v) u) fs)) (check 6 (lowest (equalCorners fs) (length fs / 3)) orElse fromSeven (a .levels) (a .v) (now (a .sharp)) fs) (Success (cageCounts (a .levels) (a .v) fs)) (sym (c .before .before .before .before .before .before .beyond .ensures) ∙ c .before .before .before .before .enum-told .given .1))
 
 returns-3 : tie.Need-returns-3
 returns-3 c =
-    let a = c .before .before .before .before .before .before .before .before .args in
+    let a = c .before .before .before .before .before .before .before .before .before .args in
     let fs = now (a .indices) in
     c .judge-sides .ensures
-    ∙ sym (five (a .levels) (a .v) fs
-    ∙ unless-goes (check 5 (find (λ u. leb (a .v) u) fs)) (check 6 (lowest (equalCorners fs) (length fs / 3)) orElse fromSeven (a .levels) (a .v) fs) (Success (cageCounts (a .levels) (a .v) fs)) (sym (c .before .before .before .before .before .before .beyond .ensures) ∙ c .before .before .before .before .enum-told .given .1)
-    ∙ unless-goes (check 6 (lowest (equalCorners fs) (length fs / 3))) (fromSeven (a .levels) (a .v) fs) (Success (cageCounts (a .levels) (a .v) fs)) (sym (c .before .before .before .flat .ensures) ∙ c .before .enum-told2 .given .1))
+    ∙ sym (five (a .levels) (a .v) (now (a .sharp)) fs
+    ∙ unless-goes (check 5 (find (λ u. leb (a .v) u) fs)) (check 6 (lowest (equalCorners fs) (length fs / 3)) orElse fromSeven (a .levels) (a .v) (now (a .sharp)) fs) (Success (cageCounts (a .levels) (a .v) fs)) (sym (c .before .before .before .before .before .before .beyond .ensures) ∙ c .before .before .before .before .enum-told .given .1)
+    ∙ unless-goes (check 6 (lowest (equalCorners fs) (length fs / 3))) (fromSeven (a .levels) (a .v) (now (a .sharp)) fs) (Success (cageCounts (a .levels) (a .v) fs)) (sym (c .before .before .before .flat .ensures) ∙ c .before .enum-told2 .given .1))
 
 pub judge-faces-spec : {M : Type 1} → statement M
 judge-faces-spec =

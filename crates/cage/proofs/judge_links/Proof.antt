@@ -17,10 +17,10 @@ use Rattle.cage.proofs.judge_links.Tie as tie
 
 stored :
     (k : tie.After-put-links) →
-    (let fs = now (k .before .before .before .before .before .args .indices) in
+    (let fs = now (k .before .before .before .before .before .before .args .indices) in
     take (length fs) (k .put-links .last .1 .1 .1 .0) ≡ map coded (links fs))
 stored k =
-    let s = k .before .before .before .before .before in
+    let s = k .before .before .before .before .before .before in
     words-stored (now (s .args .indices)) (replicate 12288 0) (k .put-links .last .1 .1 .1 .0) (s .pre .0 .3 .few) (k .put-links .ensures)
 
 slice-aggregate-put-links : tie.Need-slice-aggregate-put-links
@@ -28,7 +28,7 @@ slice-aggregate-put-links c = search needs
 
 put-links-requires : tie.Need-put-links-requires
 put-links-requires c κs =
-    let s = c .before .before .before .before in
+    let s = c .before .before .before .before .before in
     let fs = now (s .args .indices) in
     let few = s .pre .0 .3 .few in
     let small = below-more (s .args .v) 4096 fs (s .pre .0 .1) (s .pre .1 .0 .0) in
@@ -39,7 +39,7 @@ slice-aggregate-doubled c = search needs
 
 doubled-requires : tie.Need-doubled-requires
 doubled-requires c κs =
-    let s = c .before .before .before .before .before .before .before in
+    let s = c .before .before .before .before .before .before .before .before in
     let n : length (c .before .before .put-links .last .1 .1 .1 .0) ≡ 12288 = c .before .before .put-links .kept .1 .1 .1 .0 in
     ((s .pre .0 .3, rw n (s .pre .0 .3 .few)), (stored (c .before .before), (s .pre .1 .0 .1, s .pre .1 .0 .2)))
 
@@ -54,7 +54,7 @@ slice-aggregate-judge-fans c = search needs
 
 judge-fans-requires : tie.Need-judge-fans-requires
 judge-fans-requires c κs =
-    let s = c .before .before .before .before .before .before .before .before .before .before .before in
+    let s = c .before .before .before .before .before .before .before .before .before .before .before .before in
     let fs = now (s .args .indices) in
     let k = c .before .before .before .before .before .before .put-links in
     let n : length (k .last .1 .1 .1 .0) ≡ 12288 = k .kept .1 .1 .1 .0 in
@@ -66,16 +66,16 @@ judge-fans-requires c κs =
 
 returns : tie.Need-returns
 returns c =
-    let a = c .before .before .before .before .before .before .before .before .before .before .before .args in
+    let a = c .before .before .before .before .before .before .before .before .before .before .before .before .args in
     let fs = now (a .indices) in
-    unless-no (check 8 (lowest (λ f. found (lowest (sameSet fs f) f)) (length fs / 3))) (fromNine (a .levels) (a .v) fs) _ _ (sym (c .before .before .before .doubled .ensures) ∙ c .before .x .given .1)
+    unless-no (check 8 (lowest (λ f. found (lowest (sameSet fs f) f)) (length fs / 3))) (fromNine (a .levels) (a .v) (now (a .sharp)) fs) _ _ (sym (c .before .before .before .doubled .ensures) ∙ c .before .x .given .1)
 
 returns-2 : tie.Need-returns-2
 returns-2 c =
-    let a = c .before .before .before .before .before .before .before .before .before .before .before .before .args in
+    let a = c .before .before .before .before .before .before .before .before .before .before .before .before .before .args in
     let fs = now (a .indices) in
     c .judge-fans .ensures
-    ∙ sym (unless-goes (check 8 (lowest (λ f. found (lowest (sameSet fs f) f)) (length fs / 3))) (fromNine (a .levels) (a .v) fs) _ (sym (c .before .before .before .before .doubled .ensures) ∙ c .before .before .enum-told .given .1))
+    ∙ sym (unless-goes (check 8 (lowest (λ f. found (lowest (sameSet fs f) f)) (length fs / 3))) (fromNine (a .levels) (a .v) (now (a .sharp)) fs) _ (sym (c .before .before .before .before .doubled .ensures) ∙ c .before .before .enum-told .given .1))
 
 pub judge-links-spec : {M : Type 1} → statement M
 judge-links-spec =

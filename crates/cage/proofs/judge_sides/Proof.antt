@@ -20,7 +20,7 @@ slice-aggregate-chain-2 c = search needs
 
 chain-requires : tie.Need-chain-requires
 chain-requires c κs =
-    let s = c .before .before .before in
+    let s = c .before .before .before .before in
     let fs = now (s .args .indices) in
     ((s .pre .2, below-more (s .args .v) 4096 fs (s .pre .1) (s .pre .3)), (heads-none fs 4096, chained-none fs 12288 (s .pre .2 .few)))
 
@@ -44,7 +44,7 @@ slice-aggregate-judge-links-2 c = search needs
 
 judge-links-requires : tie.Need-judge-links-requires
 judge-links-requires c κs =
-    let s = c .before .before .before .before .before .before .before .before .before .before .before .before in
+    let s = c .before .before .before .before .before .before .before .before .before .before .before .before .before in
     let fs = now (s .args .indices) in
     let k = c .before .before .before .before .before .before .before .before .chain in
     let n : length (k .last .1 .0) ≡ 4096 = k .kept .1 .0 in
@@ -53,16 +53,16 @@ judge-links-requires c κs =
 
 returns : tie.Need-returns
 returns c =
-    let a = c .before .before .before .before .before .before .before .before .before .before .before .args in
+    let a = c .before .before .before .before .before .before .before .before .before .before .before .before .args in
     let fs = now (a .indices) in
-    unless-no (check 7 (lowest (usedBefore (sides fs)) (3 * (length fs / 3)))) (fromEight (a .levels) (a .v) fs) _ _ (sym (c .before .before .before .reused .ensures) ∙ c .before .x .given .1)
+    unless-no (check 7 (lowest (usedBefore (sides fs)) (3 * (length fs / 3)))) (fromEight (a .levels) (a .v) (now (a .sharp)) fs) _ _ (sym (c .before .before .before .reused .ensures) ∙ c .before .x .given .1)
 
 returns-2 : tie.Need-returns-2
 returns-2 c =
-    let a = c .before .before .before .before .before .before .before .before .before .before .before .before .before .args in
+    let a = c .before .before .before .before .before .before .before .before .before .before .before .before .before .before .args in
     let fs = now (a .indices) in
     c .judge-links .ensures
-    ∙ sym (unless-goes (check 7 (lowest (usedBefore (sides fs)) (3 * (length fs / 3)))) (fromEight (a .levels) (a .v) fs) _ (sym (c .before .before .before .before .before .reused .ensures) ∙ c .before .before .before .enum-told .given .1))
+    ∙ sym (unless-goes (check 7 (lowest (usedBefore (sides fs)) (3 * (length fs / 3)))) (fromEight (a .levels) (a .v) (now (a .sharp)) fs) _ (sym (c .before .before .before .before .before .reused .ensures) ∙ c .before .before .before .enum-told .given .1))
 
 pub judge-sides-spec : {M : Type 1} → statement M
 judge-sides-spec =

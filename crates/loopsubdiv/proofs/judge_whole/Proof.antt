@@ -1,14 +1,13 @@
 use borrow.Author.Needs.{needs}
 use denote.Ref.{now}
 use mathlib.Core.Path.{sym, _∙_}
-use Rattle.rules.specs.Position.{whole}
 use Rattle.rules.specs.Answers.{wholeRooms}
-use Rattle.loopsubdiv.proofs.Outcomes.{then-refused, then-room}
+use Rattle.loopsubdiv.proofs.SharpOutcomes.{sharp-refused, sharp-room}
 use Rattle.loopsubdiv.proofs.judge_whole.Statement.{statement}
 use Rattle.loopsubdiv.proofs.judge_whole.Tie as tie
 
-judge-whole-requires : tie.Need-judge-whole-requires
-judge-whole-requires c κs = search needs
+judge-sharp-requires : tie.Need-judge-sharp-requires
+judge-sharp-requires c κs = search needs
 
 enum-known-x : tie.Need-enum-known-x
 enum-known-x c = search needs
@@ -20,12 +19,12 @@ whole-room-requires : tie.Need-whole-room-requires
 whole-room-requires c κs = search needs
 
 returns : tie.Need-returns
-returns c = let s = c .before .before .before .before .before in sym (then-refused whole (wholeRooms (s .args .positions) (s .args .out) (s .args .words) (s .args .work)) (s .args .levels) (now (s .args .indices)) (now (s .args .coords)) _ (sym (c .before .before .before .judge-whole .ensures) ∙ c .before .x .given .1))
+returns c = let s = c .before .before .before .before .before .before in sym (sharp-refused (wholeRooms (s .args .positions) (s .args .out) (s .args .words) (s .args .work)) (s .args .levels) (now (s .args .sharp)) (now (s .args .indices)) (now (s .args .coords)) _ (sym (c .before .before .before .judge-sharp .ensures) ∙ c .before .x .given .1))
 
 returns-2 : tie.Need-returns-2
-returns-2 c = let s = c .before .before .before .before .before .before in c .whole-room .ensures ∙ sym (then-room whole (wholeRooms (s .args .positions) (s .args .out) (s .args .words) (s .args .work)) (s .args .levels) (now (s .args .indices)) (now (s .args .coords)) _ (sym (c .before .before .before .before .judge-whole .ensures) ∙ c .before .before .c .given .1))
+returns-2 c = let s = c .before .before .before .before .before .before .before in c .whole-room .ensures ∙ sym (sharp-room (wholeRooms (s .args .positions) (s .args .out) (s .args .words) (s .args .work)) (s .args .levels) (now (s .args .sharp)) (now (s .args .indices)) (now (s .args .coords)) _ (sym (c .before .before .before .before .judge-sharp .ensures) ∙ c .before .before .c .given .1))
 
 pub judge-whole-spec : {M : Type 1} → statement M
 judge-whole-spec =
     tie.close
-    (tie.spec judge-whole-requires enum-known-x enum-known-c whole-room-requires returns returns-2)
+    (tie.spec judge-sharp-requires enum-known-x enum-known-c whole-room-requires returns returns-2)

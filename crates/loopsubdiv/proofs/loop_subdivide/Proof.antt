@@ -8,7 +8,7 @@ use Rattle.lists.specs.Lists.{cleared}
 use Rattle.rules.specs.Position.{single, f32}
 use Rattle.rules.specs.Answers.{singleRooms}
 use Rattle.rules.specs.declared.Counts.{Counts}
-use Rattle.loopsubdiv.specs.Held.{halfOf}
+use Rattle.room.specs.Held.{halfOf}
 use Rattle.loopsubdiv.proofs.Outcomes.{done, single-room}
 use Rattle.loopsubdiv.proofs.loop_subdivide.Statement.{statement}
 use Rattle.loopsubdiv.proofs.loop_subdivide.Tie as tie

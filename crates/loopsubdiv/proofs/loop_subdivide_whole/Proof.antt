@@ -2,15 +2,14 @@ use borrow.Author.Needs.{needs}
 use denote.Ref.{now}
 use native.Mathlib.Omega.{arith}
 use Prim.Native.Nat.{ℕ, _+_, _*_}
-use mathlib.Core.Path.{_≡_, refl, sym, ap, _∙_}
+use mathlib.Core.Path.{_≡_, sym, ap, _∙_}
 use lib.ListN.{length}
 use lib.IntN.{pos}
 use Rattle.lists.specs.Lists.{cleared}
-use Rattle.rules.specs.Position.{whole}
 use Rattle.rules.specs.Answers.{wholeRooms}
-use Rattle.rules.specs.declared.Counts.{Counts}
-use Rattle.loopsubdiv.specs.Held.{halfOf}
-use Rattle.loopsubdiv.proofs.Outcomes.{done, whole-room}
+use Rattle.room.specs.Held.{halfOf}
+use Rattle.loopsubdiv.proofs.Outcomes.{whole-room}
+use Rattle.loopsubdiv.proofs.SharpOutcomes.{sharp-done}
 use Rattle.loopsubdiv.proofs.loop_subdivide_whole.Statement.{statement}
 use Rattle.loopsubdiv.proofs.loop_subdivide_whole.Tie as tie
 
@@ -29,15 +28,13 @@ cast-nf c = search needs
 cast-nv : tie.Need-cast-nv
 cast-nv c = search needs
 
-run-requires : tie.Need-run-requires
-run-requires c κs =
-    let s = c .before .before .before .before .before .before .before .before .before .before .before .before .before in
+act-requires : tie.Need-act-requires
+act-requires c κs =
+    let s = c .before .before .before .before .before .before .before .before .before .before .before .before .before .before in
     let x = c .before .before .before .before .before .before .before .o .given .0 .0 in
-    let d = done whole (wholeRooms (length (now (s .args .positions))) (length (now (s .args .out))) (length (now (s .args .words))) (length (now (s .args .work)))) (s .args .levels) (now (s .args .indices)) (now (s .args .coords)) x (sym (c .before .before .before .before .before .before .before .before .before .judge-whole .ensures) ∙ c .before .before .before .before .before .before .before .o .given .1) in
-    let r = whole-room (length (now (s .args .positions))) (length (now (s .args .out))) (length (now (s .args .words))) (length (now (s .args .work))) x (d .room) in (
-      record { passes = d .passes; faces = sym (ap (λ (k : Counts). k .faces) (d .counts)); verts = sym (ap (λ (k : Counts). k .vertices) (d .counts)) },
-      (omega (arith, r .words), (omega (arith, r .coords), (r .positions, r .indices))),
-    )
+    let d = sharp-done (wholeRooms (length (now (s .args .positions))) (length (now (s .args .out))) (length (now (s .args .words))) (length (now (s .args .work)))) (s .args .levels) (now (s .args .sharp)) (now (s .args .indices)) (now (s .args .coords)) x (sym (c .before .before .before .before .before .before .before .before .before .judge-whole .ensures) ∙ c .before .before .before .before .before .before .before .o .given .1) in
+    let r = whole-room (length (now (s .args .positions))) (length (now (s .args .out))) (length (now (s .args .words))) (length (now (s .args .work))) x (d .room) in
+    ((d .planned, d .listed), (omega (arith, r .words), (omega (arith, r .coords), (r .positions, r .indices))))
 
 returns : tie.Need-returns
 returns c =
@@ -58,9 +55,9 @@ same-length-4 c = search needs
 
 returns-2 : tie.Need-returns-2
 returns-2 c =
-    let s = c .before .before .before .before .before .before .before .before .before .before .before .before .before .before .before .before .before .before .before .before in
+    let s = c .before .before .before .before .before .before .before .before .before .before .before .before .before .before .before .before .before .before .before .before .before in
     let k = c .before .before .before .before .before .before .before .before .before .before .before .before .before .before .o .given .0 .0 in
-    let r = c .before .before .before .before .before .before .run .ensures in
+    let r = c .before .before .before .before .before .before .act .ensures in
     let e : 2 * halfOf (k .faces) (k .vertices) ≡ 16 * k .faces + 8 * k .vertices = omega arith in
     let f : 2 * (3 * k .vertices) ≡ 6 * k .vertices = omega arith in
     record {
@@ -80,7 +77,7 @@ loop-subdivide-whole-spec =
     enum-known-o
     cast-nf
     cast-nv
-    run-requires
+    act-requires
     returns
     same-length
     same-length-2

@@ -63,8 +63,8 @@ indices-are k =
 array-share-prefix-indices : tie.Need-array-share-prefix-indices
 array-share-prefix-indices c = search needs
 
-slice-aggregate-loop-subdivide-whole : tie.Need-slice-aggregate-loop-subdivide-whole
-slice-aggregate-loop-subdivide-whole c =
+slice-aggregate-smooth : tie.Need-slice-aggregate-smooth
+slice-aggregate-smooth c =
     let w = c .before .before in
     let h = w .before .before .before .before .before .before .before .before .before .before .pre in
     sym (length-take-le _ _ (omega (arith, w .words-from .kept .1 .1 .0)))
@@ -72,14 +72,14 @@ slice-aggregate-loop-subdivide-whole c =
 array-share-prefix-coords : tie.Need-array-share-prefix-coords
 array-share-prefix-coords c = search needs
 
-slice-aggregate-loop-subdivide-whole-2 : tie.Need-slice-aggregate-loop-subdivide-whole-2
-slice-aggregate-loop-subdivide-whole-2 c =
+slice-aggregate-smooth-2 : tie.Need-slice-aggregate-smooth-2
+slice-aggregate-smooth-2 c =
     let w = c .before .before .before .before .before .before .before in
     let h = w .before .before .before .before .before .before .pre in
     sym (length-take-le _ _ (omega (arith, w .coords-from .kept .1 .1 .0)))
 
-loop-subdivide-whole-requires : tie.Need-loop-subdivide-whole-requires
-loop-subdivide-whole-requires c κs = search needs
+smooth-requires : tie.Need-smooth-requires
+smooth-requires c κs = search needs
 
 same-length : tie.Need-same-length
 same-length c = search needs
@@ -101,7 +101,7 @@ returns c =
     let a = s .args in
     let rooms = wholeRooms (length (now (a .positions))) (length (now (a .out))) (length (now (a .words))) (length (now (a .work))) in
     let k = known s in
-    let e = rw (indices-are w, coords-are (w .before .before .before .before), ← (k .levels)) at (d .loop-subdivide-whole .ensures) in
+    let e = rw (indices-are w, coords-are (w .before .before .before .before), ← (k .levels)) at (d .smooth .ensures) in
     record {
       answer = rw (read-outcome rooms (now (a .bytes)) (k .good)) (e .answer);
       positions = e .positions;
@@ -123,10 +123,10 @@ subdivide-lists-spec =
     slice-aggregate-words-from
     words-from-requires
     array-share-prefix-indices
-    slice-aggregate-loop-subdivide-whole
+    slice-aggregate-smooth
     array-share-prefix-coords
-    slice-aggregate-loop-subdivide-whole-2
-    loop-subdivide-whole-requires
+    slice-aggregate-smooth-2
+    smooth-requires
     same-length
     same-length-2
     same-length-3

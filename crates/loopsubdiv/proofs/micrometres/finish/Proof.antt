@@ -13,7 +13,7 @@ use Rattle.lists.specs.Lists.{part}
 use Rattle.rules.specs.Mesh.{links}
 use Rattle.levels.specs.Level.{meshIn}
 use Rattle.levels.proofs.Moves.{lent-is}
-use Rattle.loopsubdiv.proofs.Last.{last-movable, last-faces, last-limits, last-points, last-long}
+use Rattle.room.proofs.Last.{last-movable, last-faces, last-limits, last-points, last-long}
 use Rattle.loopsubdiv.proofs.micrometres.finish.Statement.{statement}
 use Rattle.loopsubdiv.proofs.micrometres.finish.Tie as tie
 

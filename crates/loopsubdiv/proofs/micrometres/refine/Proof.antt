@@ -4,7 +4,7 @@ use Prim.Native.Nat.{ℕ, _-_, _+_, _*_, _≤_}
 use mathlib.Core.Path.{_≡_, subst}
 use Rattle.rules.specs.Position.{whole}
 use Rattle.rules.specs.Levels.{last}
-use Rattle.loopsubdiv.specs.Held.{Held}
+use Rattle.room.specs.Held.{Held}
 use Rattle.loopsubdiv.proofs.Going.{Going, going-first, going-movable, going-placed, going-coords, going-ready, going-next, going-small}
 use Rattle.rules.proofs.Range.{near-at}
 use Rattle.loopsubdiv.proofs.micrometres.refine.Statement.{statement}

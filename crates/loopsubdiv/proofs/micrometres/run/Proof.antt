@@ -5,9 +5,9 @@ use Prim.Native.Nat.{_*_}
 use mathlib.Core.Path.{_∙_}
 use Rattle.rules.specs.Position.{whole}
 use Rattle.rules.specs.Levels.{last}
-use Rattle.loopsubdiv.specs.Held.{halfOf, thirdOf, Kept, Held}
-use Rattle.loopsubdiv.proofs.Held.{kept-then}
-use Rattle.loopsubdiv.proofs.First.{clear-kept, parts-are, within, small, loads, load-room, first-held, first-kept}
+use Rattle.room.specs.Held.{halfOf, thirdOf, Kept, Held}
+use Rattle.room.proofs.Held.{kept-then}
+use Rattle.room.proofs.First.{clear-kept, parts-are, within, small, loads, load-room, first-held, first-kept}
 use lib.IntN.{pos}
 use Rattle.loopsubdiv.proofs.micrometres.run.Statement.{statement}
 use Rattle.loopsubdiv.proofs.micrometres.run.Tie as tie

@@ -14,7 +14,7 @@ use Rattle.rules.specs.Levels.{last, limits, positions}
 use Rattle.levels.specs.Level.{meshIn}
 use Rattle.levels.proofs.Moves.{lent-is}
 use Rattle.tangents.specs.Normals.{normalIn}
-use Rattle.loopsubdiv.proofs.Last.{last-fits, last-movable, last-faces, last-limits, last-points, last-long}
+use Rattle.room.proofs.Last.{last-fits, last-movable, last-faces, last-limits, last-points, last-long}
 use Rattle.loopsubdiv.proofs.Normals.{front-read, last-smooth, last-normals}
 use Rattle.loopsubdiv.proofs.points.finish.Statement.{statement}
 use Rattle.loopsubdiv.proofs.points.finish.Tie as tie

@@ -4,7 +4,7 @@ use Prim.Native.Nat.{ℕ, _-_, _+_, _*_, _≤_}
 use mathlib.Core.Path.{_≡_, subst}
 use Rattle.rules.specs.Position.{single}
 use Rattle.rules.specs.Levels.{last}
-use Rattle.loopsubdiv.specs.Held.{Held}
+use Rattle.room.specs.Held.{Held}
 use Rattle.loopsubdiv.proofs.Going.{Going, going-first, going-movable, going-placed, going-ready, going-next, going-small}
 use Rattle.loopsubdiv.proofs.points.refine.Statement.{statement}
 use Rattle.loopsubdiv.proofs.points.refine.Tie as tie

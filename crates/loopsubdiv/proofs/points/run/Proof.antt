@@ -7,9 +7,9 @@ use lib.ListN.{length}
 use Rattle.lists.proofs.Stores.{length-cleared}
 use Rattle.rules.specs.Position.{single, f32}
 use Rattle.rules.specs.Levels.{last}
-use Rattle.loopsubdiv.specs.Held.{halfOf, thirdOf, Kept, Held}
-use Rattle.loopsubdiv.proofs.Held.{kept-then}
-use Rattle.loopsubdiv.proofs.First.{clear-kept, parts-are, within, small, loads, load-room, first-held, first-kept}
+use Rattle.room.specs.Held.{halfOf, thirdOf, Kept, Held}
+use Rattle.room.proofs.Held.{kept-then}
+use Rattle.room.proofs.First.{clear-kept, parts-are, within, small, loads, load-room, first-held, first-kept}
 use Rattle.loopsubdiv.proofs.points.run.Statement.{statement}
 use Rattle.loopsubdiv.proofs.points.run.Tie as tie
 

@@ -1,0 +1,4 @@
+pub mod Creases
+pub mod Rims
+pub mod Counted
+pub mod Moves

@@ -1,0 +1,159 @@
+// The new positions of one level: `micrometres` of crate `levels`, with marks.
+use crate::creased;
+use crate::rings::sharp_ring;
+use faces::VertNo;
+use faces::backward;
+use faces::onward;
+use levels::first_met;
+use marks::mark;
+use weights::Stage;
+use weights::micrometres::Whole3;
+use weights::micrometres::edge_inner;
+use weights::micrometres::edge_rim;
+ghost use mathlib.Core.Path.{_≡_};
+ghost use Prim.Native.Nat.{_+_, _*_, _≤_, _<_};
+ghost use lib.ListN.{length};
+ghost use lib.Seq.{sets};
+ghost use Rattle.lists.specs.Lists.{part};
+ghost use Rattle.rules.specs.Mesh.{links};
+ghost use Rattle.rules.specs.Position.{whole};
+ghost use Rattle.rules.specs.Sharp.{sharpNew};
+ghost use Rattle.rules.proofs.Range.{AllNear};
+ghost use Rattle.weights.specs.Lent.{lowered, Raised3};
+ghost use Rattle.levels.specs.Level.{meshIn};
+ghost use Rattle.levels.specs.Moves.{Placed, edgesIn};
+ghost use Rattle.marks.specs.Marks.{marksIn};
+ghost use Rattle.creases.specs.Moves.{Markable, sharpOld, sharpOlds, sharpEdgeAt, sharpEdges};
+
+// Old vertex u by its ring.
+fn old_point(
+    words: &[u32],
+    at: usize,
+    marks: usize,
+    nf: usize,
+    nv: usize,
+    work: &[i32],
+    from: usize,
+    u: usize,
+) -> Whole3
+    requires mesh { ⌜ Markable (now words) at marks nf nv × (u < nv) ⌝ }
+    requires room { ⌜ from + 3 * nv ≤ length (now work) ⌝ }
+    requires near { ⌜ AllNear (part from (3 * nv) (now work)) ⌝ }
+    ensures point { λ r. ⌜ lowered r ≡ sharpOld whole (now (words .entry)) at marks nf (part from (3 * nv) (now (work .entry))) nv u ⌝ }
+    ensures near { λ r. ⌜ Raised3 r ⌝ }
+{
+    let s = words[at + 6 * nf + u] as usize;
+    let mut vs: [u32; 16] = [0; 16];
+    let ring = sharp_ring(words, at, at + 3 * nf, marks, nf, s, &mut vs);
+    creased(
+        &work[from..from + 3 * nv],
+        VertNo(u as u32),
+        &vs[..ring.n],
+        ring.creases,
+        ring.a,
+        ring.b,
+        Stage::Refining,
+    )
+}
+
+// The new vertex of the edge of side s, the middle of its ends where it is sharp: by the corners of its face and of the face across.
+fn edge_point(
+    words: &[u32],
+    at: usize,
+    marks: usize,
+    nf: usize,
+    nv: usize,
+    work: &[i32],
+    from: usize,
+    s: usize,
+) -> Whole3
+    requires mesh { ⌜ Markable (now words) at marks nf nv × (s < 3 * nf) ⌝ }
+    requires room { ⌜ from + 3 * nv ≤ length (now work) ⌝ }
+    requires near { ⌜ AllNear (part from (3 * nv) (now work)) ⌝ }
+    ensures point { λ r. ⌜ lowered r ≡ sharpEdgeAt whole (now (words .entry)) at marks nf (part from (3 * nv) (now (work .entry))) s ⌝ }
+    ensures near { λ r. ⌜ Raised3 r ⌝ }
+{
+    let a = VertNo(words[at + s]);
+    let b = VertNo(words[at + onward(s)]);
+    let w = words[at + 3 * nf + s];
+    if w == 0 {
+        return edge_rim(&work[from..from + 3 * nv], a, b);
+    }
+    if mark(words, marks, s) {
+        return edge_rim(&work[from..from + 3 * nv], a, b);
+    }
+    let d = VertNo(words[at + backward(s)]);
+    let e = VertNo(words[at + backward((w - 1) as usize)]);
+    edge_inner(&work[from..from + 3 * nv], a, b, d, e)
+}
+
+fn old_points(
+    words: &[u32],
+    at: usize,
+    marks: usize,
+    nf: usize,
+    nv: usize,
+    work: &mut [i32],
+    from: usize,
+    to: usize,
+)
+    requires mesh { ⌜ Markable (now words) at marks nf nv ⌝ }
+    requires room { ⌜ Placed (length (now work)) from to nv (edgesIn (now words) at nf) ⌝ }
+    requires near { ⌜ AllNear (part from (3 * nv) (now work)) ⌝ }
+    ensures { λ r. ⌜ now (work .exit) ≡ sets (now (work .entry)) to (sharpOlds whole (now (words .entry)) at marks nf (part from (3 * nv) (now (work .entry))) nv) ⌝ }
+{
+    let mut u = 0;
+    while u < nv {
+        let p = old_point(words, at, marks, nf, nv, &work[..], from, u);
+        p.put(work, to + 3 * u);
+        u = u + 1;
+    }
+}
+
+// The new vertices of the edges, in the order in which these are first met.
+fn edge_points(
+    words: &[u32],
+    at: usize,
+    marks: usize,
+    nf: usize,
+    nv: usize,
+    work: &mut [i32],
+    from: usize,
+    to: usize,
+)
+    requires mesh { ⌜ Markable (now words) at marks nf nv ⌝ }
+    requires room { ⌜ Placed (length (now work)) from to nv (edgesIn (now words) at nf) ⌝ }
+    requires near { ⌜ AllNear (part from (3 * nv) (now work)) ⌝ }
+    ensures { λ r. ⌜ now (work .exit) ≡ sets (now (work .entry)) (to + 3 * nv) (sharpEdges whole (now (words .entry)) at marks nf (part from (3 * nv) (now (work .entry)))) ⌝ }
+{
+    let mut k = 0;
+    let mut s = 0;
+    while s < 3 * nf {
+        if first_met(words[at + 3 * nf + s], s as u32) {
+            let p = edge_point(words, at, marks, nf, nv, &work[..], from, s);
+            p.put(work, to + 3 * nv + 3 * k);
+            k = k + 1;
+        }
+        s = s + 1;
+    }
+}
+
+// The coordinates of the refined mesh, at `to`, from those of the mesh in the words, at `from`.
+pub fn sharp_points(
+    words: &[u32],
+    at: usize,
+    marks: usize,
+    nf: usize,
+    nv: usize,
+    work: &mut [i32],
+    from: usize,
+    to: usize,
+)
+    requires mesh { ⌜ Markable (now words) at marks nf nv ⌝ }
+    requires room { ⌜ Placed (length (now work)) from to nv (edgesIn (now words) at nf) ⌝ }
+    requires near { ⌜ AllNear (part from (3 * nv) (now work)) ⌝ }
+    ensures { λ r. ⌜ now (work .exit) ≡ sets (now (work .entry)) to (sharpNew whole (meshIn (now (words .entry)) at nf nv) (links (part at (3 * nf) (now (words .entry)))) (marksIn (now (words .entry)) marks nf) (part from (3 * nv) (now (work .entry)))) ⌝ }
+{
+    old_points(words, at, marks, nf, nv, work, from, to);
+    edge_points(words, at, marks, nf, nv, work, from, to);
+}

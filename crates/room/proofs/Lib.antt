@@ -1,0 +1,5 @@
+pub mod Sizes
+pub mod Held
+pub mod Loaded
+pub mod Last
+pub mod First

@@ -1,0 +1,73 @@
+use mir.Syntax.{w32}
+use mir.ValLaws.{toZ-ofZ}
+use borrow.Author.Needs.{needs}
+use denote.Ref.{now}
+use native.Mathlib.Omega.{arith}
+use Prim.Native.Nat.{_-_, _≤_}
+use mathlib.Core.Path.{_≡_, refl, _∙_}
+use lib.ListN.{getD, length, length-set, take}
+use lib.Seq.{sets, take-length}
+use Rattle.lists.proofs.Stores.{copy-more}
+use lib.IntN.{pos}
+use Rattle.room.proofs.copy_coords.Statement.{statement}
+use Rattle.room.proofs.copy_coords.Tie as tie
+
+abbrev Inv-loop : tie.InvT-loop
+Inv-loop w s₀ k₀ k-end s k = (k ≤ k-end) × (k-end ≡ length w) × (length s ≡ length s₀) × (s ≡ sets s₀ 0 (take k w))
+
+abbrev μ-loop : tie.MeasureT-loop
+μ-loop w s₀ k₀ k-end s k = k-end - k
+
+loop-holds : tie.Need-loop-holds Inv-loop μ-loop
+loop-holds c = (omega arith, refl, refl, refl)
+
+mul-s : tie.Need-mul-s Inv-loop μ-loop
+mul-s c = omega arith
+
+shared-slice-copy-out-s : tie.Need-shared-slice-copy-out-s Inv-loop μ-loop
+shared-slice-copy-out-s c = omega arith
+
+mul-t9 : tie.Need-mul-t9 Inv-loop μ-loop
+mul-t9 c = omega arith
+
+slice-set-from-s : tie.Need-slice-set-from-s Inv-loop μ-loop
+slice-set-from-s c = omega arith
+
+add-k : tie.Need-add-k Inv-loop μ-loop
+add-k c = omega arith
+
+loop-less : tie.Need-loop-less Inv-loop μ-loop
+loop-less c = omega arith
+
+loop-again : tie.Need-loop-again Inv-loop μ-loop
+loop-again c =
+    let l = c .before .before .loop in
+    let w = now (c .before .before .before .args .w) in
+    let e = toZ-ofZ w32 (getD w (l .k) (pos 0)) (record { sfits = c .s .given }) in
+    (omega arith, refl, rw length-set (l .inv .2), rw (e, l .inv .3) (copy-more (now (c .before .before .before .args .s)) w (l .k) (pos 0) (omega arith)))
+
+same-length : tie.Need-same-length Inv-loop μ-loop
+same-length c = search needs
+
+returns : tie.Need-returns Inv-loop μ-loop
+returns c =
+    let l = c .before .loop in
+    let e : l .k ≡ length (now (c .before .before .args .w)) = omega arith in
+    l .inv .3 ∙ rw (e, take-length)
+
+pub copy-coords-spec : {M : Type 1} → statement M
+copy-coords-spec =
+    tie.close
+    (tie.spec
+    Inv-loop
+    μ-loop
+    loop-holds
+    mul-s
+    shared-slice-copy-out-s
+    mul-t9
+    slice-set-from-s
+    add-k
+    loop-less
+    loop-again
+    same-length
+    returns)

@@ -1,0 +1,3 @@
+pub mod Marching
+pub mod First
+pub mod Last
