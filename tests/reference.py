@@ -164,7 +164,6 @@ def check_cage(levels, indices, coords, kind):
     first(9, [v for v in range(vertices) if not at[v]])
     first(10, [v for v in range(vertices) if fans(at[v], v) > 1])
     mesh = Mesh.of_cage(indices, vertices)
-    # 11, a ring walk that passes more faces than the mesh has, cannot happen past this point.
     first(12, [v for v in range(vertices) if len(mesh.ring(v)[1]) > 16])
     return mesh
 

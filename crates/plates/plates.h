@@ -24,7 +24,7 @@ extern "C" {
 #endif
 
 /* Counts up when something in this file changes, or what a call answers. */
-#define PLATES_VERSION 6
+#define PLATES_VERSION 7
 
 /* The stack that a call may take, in bytes: give a thread as much, and what its own functions take besides. Where a system gives a thread 128 KB, the calls on lists run in it;
    the call on a sheet holds the sheet's lists too. */
@@ -41,7 +41,7 @@ extern "C" {
 #define PLATES_ROOM_WORDS (24 * PLATES_MOST)    /* 786,432, as 16F+8V */
 #define PLATES_ROOM_WORK (6 * PLATES_MOST)      /* 196,608 */
 
-/* What told[0] says. docs/HANDBOOK.md has a section on each, with what the place counts and what to do. (16 is the programs' alone: the input is too long.) */
+/* What told[0] says. docs/HANDBOOK.md has a section on each, with what the place counts and what to do. (16 is the programs' alone: the input is too long. 11 is not used.) */
 enum plates_refusal {
     PLATES_DONE = 0,
     PLATES_TOO_MANY_LEVELS = 1,
@@ -54,7 +54,6 @@ enum plates_refusal {
     PLATES_FACE_ON_ANOTHER = 8,
     PLATES_VERTEX_ON_NO_FACE = 9,
     PLATES_TWO_FANS = 10,
-    PLATES_WALK_DOES_NOT_END = 11,
     PLATES_TOO_MANY_RAYS = 12,
     PLATES_LAST_LEVEL_TOO_LARGE = 13,
     PLATES_BUFFER_SHORT = 14,

@@ -19,7 +19,6 @@ static const char *name(uint32_t refusal) {
     case PLATES_FACE_ON_ANOTHER: return "a face on top of another";
     case PLATES_VERTEX_ON_NO_FACE: return "a vertex on no face";
     case PLATES_TWO_FANS: return "two fans meet in one point";
-    case PLATES_WALK_DOES_NOT_END: return "a walk round a vertex does not end";
     case PLATES_TOO_MANY_RAYS: return "too many rays";
     case PLATES_LAST_LEVEL_TOO_LARGE: return "the last level is too large";
     case PLATES_BUFFER_SHORT: return "a lent buffer is short";

@@ -1,11 +1,12 @@
--- What request 7 promises of the whole call, over its definitions alone. Assumes nothing.
+-- What request 7 promises of the whole call, over its definitions alone; and of request 8, that it tells no 11. Assumes nothing.
 use Prim.Native.Nat.{ℕ, _+_, _-_, _*_, _≤_}
 use mathlib.Core.Path.{_≡_, refl, sym, ap, _∙_, subst}
+use mathlib.Core.Logic.{_≢_}
 use mathlib.Core.Bool.{Bool, true, false}
 use mathlib.Core.List.{List, [], _∷_, _++_, append-assoc}
 use native.Mathlib.Omega.{arith}
 use lib.IntN.{ℤ}
-use lib.ListN.{length, take, drop, length-append}
+use lib.ListN.{length, getD, take, drop, length-append}
 use lib.Seq.{sets, sets-eq, take-at, drop-at, take-take, take-add, length-take-le, take-length, take-append-le}
 use Rattle.lists.specs.Lists.{pick, part}
 use Rattle.lists.proofs.Stores.{drop-after}
@@ -15,8 +16,9 @@ use Rattle.rules.specs.Answers.{answer}
 use Rattle.rules.specs.declared.Counts.{Counts}
 use Rattle.rules.specs.declared.Outcome.{Outcome}
 use Rattle.rules.specs.declared.Outcome.the-variants.{Success}
-use Rattle.rules.specs.Calls.{Lent, Buffers, sheetLast}
-use Rattle.alphabet.specs.Sheets.{Done, answered, next, allOf, cut, nothing, badBatch, number, done, Left, SheetsCall}
+use Rattle.rules.specs.Calls.{Lent, Buffers, wholeRoom, sheetLast}
+use Rattle.rules.proofs.Ends.{sheet-never-eleven}
+use Rattle.alphabet.specs.Sheets.{Done, roomOf, alone, answered, next, allOf, cut, nothing, badBatch, number, done, Left, SheetsCall}
 use Rattle.alphabet.proofs.Lengths.{fine}
 use Rattle.alphabet.proofs.Fold.{Fits, fits-nothing, fits-next, fits-all, told-next, told-long, part-of-take, output-here, past-positions, past-indices}
 
@@ -77,6 +79,10 @@ module _ (t : Buffers ℤ) (before : List (List ℕ)) (b : List ℕ) (after : Li
       ap (λ (d : Done). part (5 * length before) 5 (d .told)) end-is ∙ sym (part-of-take (5 * length before) 5 z l) ∙ ap (λ (n : ℕ). drop (5 * length before) (take n z)) (sym w)
       ∙ ap (drop (5 * length before)) (told-kept e after k ∙ told-next then b fits) ∙ drop-at (then .told) (answer (answered then b)) (5 * length before) told-then
 
+  pub slot-never-eleven : getD (part (5 * length before) 5 (end .told)) 0 0 ≢ 11
+  unfolding alone
+  slot-never-eleven = rw slot-by-itself (sheet-never-eleven (wholeRoom (roomOf then)) b)
+
   pub output-by-itself : (c : Counts) → answered then b ≡ Success c →
       (part (then .positions) (3 * c .vertices) (end .room .positions) ≡ positionsOf whole (sheetLast b)) × (part (then .indices) (3 * c .faces) (end .room .indices) ≡ sheetLast b .mesh .faces)
   output-by-itself c s =
@@ -94,6 +100,14 @@ module _ (bytes ns : List ℕ) (b : Lent (Buffers ℤ)) (slots : Lent (List ℕ)
       go : (x : Bool) → _≡_ {A = ℕ} (pick x 19 0) 19 → Left (pick x (nothing (b .old)) (allOf (nothing (b .old)) (cut ns bytes))) b slots → (b .new ≡ b .old) × (slots .new ≡ slots .old)
       go true e k = (k .room, k .slots)
       go false e k = absurd (let z : _≡_ {A = ℕ} 0 19 = e in omega arith)
+
+  pub number-never-eleven : r ≢ 11
+  unfolding number
+  number-never-eleven e = go (badBatch bytes ns (slots .old)) (sym (call .returned) ∙ e)
+    where
+      go : (x : Bool) → _≡_ {A = ℕ} (pick x 19 0) 11 → ⊥
+      go true e = let z : _≡_ {A = ℕ} 19 11 = e in omega arith
+      go false e = let z : _≡_ {A = ℕ} 0 11 = e in omega arith
 
   module _ (good : r ≡ 0) where
     -- all the sheets

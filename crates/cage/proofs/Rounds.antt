@@ -15,13 +15,13 @@ use Rattle.lists.proofs.Places.{length-count, getD-count, getD-map, keep-suc, l
 use Rattle.lists.proofs.Counting.{tally-append}
 use Rattle.turns.specs.Turns.{mostValence}
 use Rattle.rules.specs.Mesh.{corner, links, rims, Fan, inner, rim, endless, fan, corners, valence, lastCorner, cage}
-use Rattle.rules.specs.Refusals.{check, isEndless, fansOf}
+use Rattle.rules.specs.Refusals.{check, fansOf}
 use Rattle.rules.proofs.Sides.{length-links}
 use Rattle.rules.proofs.Checks.{check-none}
 use Rattle.faces.specs.Words.{linkOf, coded, linksIn}
 use Rattle.faces.specs.Rings.{turnOf, valenceOf}
 use Rattle.cage.specs.Chains.{lastBelow, leaves, before, Heads}
-use Rattle.cage.specs.Fans.{Tallied, Used, shortOf, lostOf}
+use Rattle.cage.specs.Fans.{Tallied, Used, shortOf}
 use Rattle.cage.specs.Verdicts.{verdictOf}
 use Rattle.cage.specs.declared.Check.the-variants.{Pass}
 use Rattle.cage.proofs.Search.{passes}
@@ -150,15 +150,10 @@ used-of v fs heads h w e = record {
 
 -- ---- what a turn says of its fan
 
-pub short-is : (f : Fan) (n : ℕ) → shortOf (turnOf f) n ≡ (not (isEndless f) && ltb (length (corners f)) n)
+pub short-is : (f : Fan) (n : ℕ) → shortOf (turnOf f) n ≡ ltb (length (corners f)) n
 short-is (inner cs) n = refl
 short-is (rim cs) n = refl
 short-is endless n = refl
-
-pub lost-is : (f : Fan) → lostOf (turnOf f) ≡ isEndless f
-lost-is (inner cs) = refl
-lost-is (rim cs) = refl
-lost-is endless = refl
 
 pub wide-is : (f : Fan) → ltb mostValence (valenceOf (turnOf f)) ≡ ltb mostValence (valence f)
 wide-is (inner cs) = refl

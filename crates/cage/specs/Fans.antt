@@ -1,7 +1,7 @@
 -- What the checks of the fans read, and what a turn says to each. Assumes nothing.
 use Prim.Native.Nat.{ℕ, _≤_, _<_}
 use mathlib.Core.Path.{_≡_}
-use mathlib.Core.Bool.{Bool, true, false}
+use mathlib.Core.Bool.{Bool}
 use mathlib.Core.List.{List, map}
 use mathlib.Core.Option.{Option, none, some}
 use lib.Dec.{eqb, ltb}
@@ -9,7 +9,7 @@ use lib.ListN.{length, getD, take}
 use Rattle.lists.specs.Lists.{tally, lowest}
 use Rattle.turns.specs.Turns.{mostValence}
 use Rattle.rules.specs.Mesh.{links, valence}
-use Rattle.rules.specs.Refusals.{check, _orElse_, isEndless, parted, fansOf}
+use Rattle.rules.specs.Refusals.{check, _orElse_, parted, fansOf}
 use Rattle.rules.specs.declared.Refusal.{Refusal}
 use Rattle.faces.specs.Words.{coded}
 use Rattle.faces.specs.declared.Turn.{Turn}
@@ -37,26 +37,20 @@ pub record Used (v : ℕ) (heads : List ℕ) : Type 0 where
   pub room : v ≤ length heads
   pub each : (u : ℕ) → u < v → 0 < getD heads u 0
 
--- a turn that ends has fewer faces than n; it does not end
+-- a turn has fewer faces than n; one that does not end has none
 abbrev pub shortOf : Turn → ℕ → Bool
 shortOf (Inner k) n = ltb k n
 shortOf (Rim k e) n = ltb k n
-shortOf Endless n = false
-
-abbrev pub lostOf : Turn → Bool
-lostOf (Inner k) = false
-lostOf (Rim k e) = false
-lostOf Endless = true
+shortOf Endless n = ltb 0 n
 
 -- a place below v, or v for none
 abbrev pub placeOr : ℕ → Option ℕ → ℕ
 placeOr v none = v
 placeOr v (some i) = i
 
--- 10 to 12, what `fanRefusal` has after 9
+-- 10 and 12, what `fanRefusal` has after 9
 abbrev pub turnRefusal : ℕ → List ℕ → Option Refusal
 turnRefusal v fs =
     let fans = fansOf v fs in
     check 10 (lowest (parted fs fans) v)
-    orElse check 11 (lowest (λ u. isEndless (fans u)) v)
     orElse check 12 (lowest (λ u. ltb mostValence (valence (fans u))) v)

@@ -11,7 +11,7 @@ ghost use Rattle.rules.specs.Refusals.{check, fanRefusal};
 ghost use Rattle.faces.specs.Rings.{turnOf, valenceOf};
 ghost use Rattle.cage.specs.Verdicts.{verdictOf};
 ghost use Rattle.cage.specs.Chains.{Faces, Below, Heads};
-ghost use Rattle.cage.specs.Fans.{Tallied, Tables, Used, shortOf, lostOf, turnRefusal};
+ghost use Rattle.cage.specs.Fans.{Tallied, Tables, Used, shortOf, turnRefusal};
 use super::Check;
 use super::no;
 use super::sides::side_of;
@@ -63,17 +63,7 @@ fn short(t: Turn, n: u16) -> bool
     match t {
         Turn::Inner(k) => k < n as usize,
         Turn::Rim(k, _) => k < n as usize,
-        Turn::Endless => false,
-    }
-}
-
-fn lost(t: Turn) -> bool
-    ensures { λ r. ⌜ r ≡ lostOf t ⌝ }
-{
-    match t {
-        Turn::Inner(_) => false,
-        Turn::Rim(_, _) => false,
-        Turn::Endless => true,
+        Turn::Endless => 0 < n,
     }
 }
 
@@ -99,14 +89,13 @@ fn first(seen: usize, v: usize, here: bool, u: usize) -> usize
     seen
 }
 
-// 10 to 12 in one walk round each vertex: 10 anywhere comes before 11 anywhere, and that before 12. 11 is never given.
+// 10 and 12 in one walk round each vertex: 10 anywhere comes before 12 anywhere.
 fn turns(indices: &[u32], heads: &[u16], counts: &[u16], words: &[u32], v: usize) -> Check
     requires tables { ⌜ Tables (now indices) (now heads) (now words) ⌝ }
     requires counts { ⌜ Tallied (now indices) (length (now indices)) (now counts) × (v ≤ length (now counts)) × (v ≤ 4096) ⌝ }
     requires used { ⌜ Used v (now heads) ⌝ }
     ensures { λ r. ⌜ r ≡ verdictOf (turnRefusal v (now (indices .entry))) ⌝ }
 {
-    let mut endless = v;
     let mut crowded = v;
     let mut u = 0;
     while u < v {
@@ -114,12 +103,8 @@ fn turns(indices: &[u32], heads: &[u16], counts: &[u16], words: &[u32], v: usize
         if short(t, counts[u]) {
             return no(10, u as u32);
         }
-        endless = first(endless, v, lost(t), u);
         crowded = first(crowded, v, wide(t), u);
         u = u + 1;
-    }
-    if endless < v {
-        return no(11, endless as u32);
     }
     if crowded < v {
         return no(12, crowded as u32);

@@ -227,6 +227,15 @@ lowest-is p n i h t b =
     at : (j : ℕ) → j < n → getD (count 0 n) j 0 ≡ j
     at j k = getD-count 0 n j 0 k ∙ omega arith
 
+-- tests that agree at every number have one lowest place
+find-from : (p q : ℕ → Bool) (i n : ℕ) → ((k : ℕ) → i ≤ k → k < i + n → p k ≡ q k) → find p (count i n) ≡ find q (count i n)
+find-from p q i zero h = refl
+find-from p q i (suc n) h =
+    ap₂ (λ (b : Bool) (o : Option ℕ). pick b (some 0) (later o)) (h i (omega arith) (omega arith)) (find-from p q (suc i) n (λ k l m. h k (omega arith) (omega arith)))
+
+pub lowest-same : (p q : ℕ → Bool) (n : ℕ) → ((k : ℕ) → k < n → p k ≡ q k) → lowest p n ≡ lowest q n
+lowest-same p q n h = find-from p q 0 n (λ k l m. h k (omega arith))
+
 pub not-found : (o : Option ℕ) → T (not (found o)) → o ≡ none
 not-found none t = refl
 not-found (some i) t = absurd t

@@ -1,13 +1,15 @@
--- Which of 16, 15, the shape and the rest decides. Assumes nothing.
+-- Which of 16, 15, the shape and the rest decides; and of request 8, that none is 11. Assumes nothing.
 use Prim.Native.Nat.{ℕ, _+_, _-_, _*_, _≤_, _<_}
 use mathlib.Core.Path.{_≡_, refl, sym, _∙_}
 use mathlib.Core.Logic.{_≢_}
+use mathlib.Core.Bool.{Bool, true, false}
 use mathlib.Core.List.{List}
 use native.Mathlib.Omega.{arith}
-use lib.ListN.{length, take, drop, length-drop}
+use lib.ListN.{length, getD, take, drop, length-drop}
 use lib.Seq.{take-all}
 use lib.Dec.{ltb}
 use borrow.Author.Tests.{lt-ltb, le-ltb, eq-eqb, ne-eqb}
+use Rattle.lists.specs.Lists.{pick}
 use Rattle.lists.proofs.Places.{skip}
 use Rattle.rules.specs.Position.{whole}
 use Rattle.rules.specs.Refusals.{shapeRefusal}
@@ -15,12 +17,12 @@ use Rattle.rules.specs.Sheets.{wordAt, signed}
 use Rattle.rules.specs.declared.Refusal.{Refusal}
 use Rattle.cage.specs.Verdicts.{verdictOf}
 use Rattle.cage.specs.declared.Check.the-variants.{No}
-use Rattle.writer.specs.Writing.{writtenOf}
+use Rattle.writer.specs.Writing.{writtenOf, writtenAnswer}
 use Rattle.writer.specs.declared.Written.the-variants as written
 use Rattle.writer.proofs.Stage.{stage-no}
 use Rattle.writer.proofs.Writes.{write-no}
 use Rattle.writer.proofs.Trips.{one-each}
-use Rattle.writer.proofs.Promise.{unlike, wrote}
+use Rattle.writer.proofs.Promise.{unlike, wrote, written-never-eleven}
 use Rattle.makesheet.specs.Lists.{mostLists, coordList, cornerList, badLists, refusedBy, made}
 
 -- what a part from p to the end is
@@ -60,3 +62,12 @@ fits room b n e =
     let x = skip (ltb mostLists (length b)) unlike e in
     let y = skip (badLists b) unlike (x .1) in
     wrote room (wordAt b 0) (cornerList b) (coordList b) n (y .1) .fits
+
+pub made-never-eleven : (room : ℕ) (b : List ℕ) → getD (writtenAnswer (made room b)) 0 0 ≢ 11
+unfolding made
+made-never-eleven room b = go (ltb mostLists (length b)) (badLists b)
+  where
+    go : (over bad : Bool) → getD (writtenAnswer (pick over (refusedBy 16) (pick bad (refusedBy 15) (writtenOf room (wordAt b 0) (cornerList b) (coordList b))))) 0 0 ≢ 11
+    go true bad = λ e. omega arith
+    go false true = λ e. omega arith
+    go false false = written-never-eleven room (wordAt b 0) (cornerList b) (coordList b)

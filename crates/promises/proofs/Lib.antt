@@ -1,3 +1,4 @@
 pub mod Promises
 pub mod Together
 pub mod Marks
+pub mod Eleven

@@ -2,7 +2,7 @@
 use mathlib.Core.Path.{_≡_, sym, ap, _∙_}
 use Prim.Native.Nat.{ℕ, suc, _-_, _*_, _/_, _<_, _≤_}
 use native.Mathlib.Omega.{arith}
-use mathlib.Core.Bool.{Bool, not, _&&_}
+use mathlib.Core.Bool.{Bool, not}
 use mathlib.Core.List.{List}
 use mathlib.Core.Option.{Option, none}
 use lib.Dec.{T, ltb, eqb, eqb→eq, nltb→le}
@@ -11,8 +11,8 @@ use lib.ListN.{length, getD, length-map}
 use Rattle.lists.specs.Lists.{count, find, found, keep, tally, lowest}
 use Rattle.rules.specs.Mesh.{corner, links, lastCorner, Fan, fan, corners, cage}
 use Rattle.rules.specs.Position.{Numbers}
-use Rattle.rules.specs.Refusals.{refusal, isEndless, parted, fansOf, sizeRefusal}
-use Rattle.lists.proofs.Places.{length-count, getD-count, getD-map, Look, nowhere, there, look, length-keep, last-at, lowest-all}
+use Rattle.rules.specs.Refusals.{refusal, parted, fansOf, sizeRefusal}
+use Rattle.lists.proofs.Places.{length-count, getD-count, getD-map, Look, nowhere, there, look, length-keep, last-at}
 use Rattle.lists.proofs.Counting.{Kept, kept, tally-without, tally-at}
 use Rattle.rules.proofs.Refine.{Good}
 use Rattle.rules.proofs.Checks.{Shape, Fans, stages-of, shape-of, range-of, fans-of, good-list}
@@ -37,13 +37,9 @@ last-starts fs v i h e =
     let last : lastCorner fs v ≡ getD ks (length ks - 1) 0 = last-at 0 ks (omega arith) in
     rw last (record { below = omega (arith, k .below); at = eqb→eq (corner fs (getD ks (length ks - 1) 0)) v (k .passes) })
 
-not-parted : (n : ℕ) (fs : List ℕ) (s : ℕ) (f : Fan) → Turned n fs s f → (t : ℕ) → T (not (not (isEndless f) && ltb (length (corners f)) t)) → t ≤ length (corners f)
-not-parted n fs s _ (round cs r) t h = nltb→le (length cs) t h
-not-parted n fs s _ (fringe cs r) t h = nltb→le (length cs) t h
-
 -- by goodness and the checks 9 and 10
 module _ (v n : ℕ) (fs : List ℕ) (g : Good v n fs) (used : (u : ℕ) → u < v → T (found (find (eqb u) fs))) where
-  start : (u : ℕ) → u < v → Starts fs u (lastCorner fs u)
+  pub start : (u : ℕ) → u < v → Starts fs u (lastCorner fs u)
   start u h = let w = used-at fs u (find (eqb u) fs) (look (eqb u) 0 fs) (used u h) in last-starts fs u (w .0) (w .1) (w .2)
 
   start-below : (u : ℕ) → u < v → lastCorner fs u < 3 * n
@@ -60,7 +56,7 @@ module _ (v n : ℕ) (fs : List ℕ) (g : Good v n fs) (used : (u : ℕ) → u <
   module _ (together : (u : ℕ) → u < v → T (not (parted fs (fansOf v fs) u))) where
     enough : (u : ℕ) → u < v → cornersAt n fs u ≤ length (corners (fan (links fs) (lastCorner fs u)))
     enough u h =
-        let b = not-parted n fs (lastCorner fs u) (fansOf v fs u) (cage-turned u h) (tally (eqb u) fs) (together u h) in
+        let b = nltb→le (length (corners (fansOf v fs u))) (tally (eqb u) fs) (together u h) in
         rw (← (g .size), ← (tally-at (eqb u) fs)) (rw (start-is u h) at b)
 
     sized : length (cage v fs .starts) ≡ v
@@ -78,15 +74,6 @@ module _ (v n : ℕ) (fs : List ℕ) (g : Good v n fs) (used : (u : ℕ) → u <
           rw (start-is u h) (covers v n fs g (lastCorner fs u) (start-below u h)
           (rw (start u h .at) (enough u h)) x k (q ∙ sym (start u h .at)));
     }
-
--- ---- refusal 11 is never given, though the table has it
-
-not-endless : (n : ℕ) (fs : List ℕ) (s : ℕ) (f : Fan) → Turned n fs s f → T (not (isEndless f))
-not-endless n fs s _ (round cs r) = tt
-not-endless n fs s _ (fringe cs r) = tt
-
-pub no-eleven : (v n : ℕ) (fs : List ℕ) → Good v n fs → ((u : ℕ) → u < v → T (found (find (eqb u) fs))) → lowest (λ u. isEndless (fansOf v fs u)) v ≡ none
-no-eleven v n fs g used = lowest-all (λ u. isEndless (fansOf v fs u)) v (λ u h. not-endless n fs (lastCorner fs u) (fansOf v fs u) (cage-turned v n fs g used u h))
 
 -- ---- what is accepted
 

@@ -13,7 +13,7 @@ use lib.ListN.{length, getD, take}
 use lib.Seq.{getD-take, length-take-le}
 use Rattle.lists.specs.Lists.{find, lowest, found}
 use Rattle.rules.specs.Mesh.{onward, backward, corner, Side, side, sides, valence}
-use Rattle.rules.specs.Refusals.{mostLevels, mostInCage, same, check, _orElse_, when, either, has, equalCorners, sameSet, usedBefore, isEndless, parted, fansOf, shapeRefusal, rangeRefusal, listRefusal, fanRefusal, sizeRefusal, refusal}
+use Rattle.rules.specs.Refusals.{mostLevels, mostInCage, same, check, _orElse_, when, either, has, equalCorners, sameSet, usedBefore, parted, fansOf, shapeRefusal, rangeRefusal, listRefusal, fanRefusal, sizeRefusal, refusal}
 use Rattle.turns.specs.Turns.{mostValence}
 use Rattle.rules.specs.Position.{Numbers}
 use Rattle.rules.specs.declared.Refusal.{Refusal}
@@ -102,7 +102,7 @@ module _ (fs : List ℕ) (n : ℕ) (size : length fs ≡ 3 * n) where
   -- ---- corner sets
 
   -- a corner of the face of s is one of its corners
-  has-corner : (f s : ℕ) → s / 3 ≡ f → T (has (corner fs (3 * f)) (corner fs (3 * f + 1)) (corner fs (3 * f + 2)) (corner fs s))
+  pub has-corner : (f s : ℕ) → s / 3 ≡ f → T (has (corner fs (3 * f)) (corner fs (3 * f + 1)) (corner fs (3 * f + 2)) (corner fs s))
   has-corner f s e = go (third s)
     where
       a : ℕ
@@ -237,7 +237,6 @@ range-of 𝓝 xs e i h = not-not (𝓝 .allowed (getD xs i (𝓝 .nought))) (fin
 pub record Fans (v : ℕ) (fs : List ℕ) : Type 0 where
   pub used : (u : ℕ) → u < v → T (found (find (eqb u) fs))
   pub together : (u : ℕ) → u < v → T (not (parted fs (fansOf v fs) u))
-  pub ending : (u : ℕ) → u < v → T (not (isEndless (fansOf v fs u)))
   pub valences : (u : ℕ) → u < v → valence (fansOf v fs u) ≤ mostValence
 
 pub fans-of : (v : ℕ) (fs : List ℕ) → fanRefusal v fs ≡ none → Fans v fs
@@ -245,12 +244,10 @@ unfolding fanRefusal
 fans-of v fs e =
     let c9 = or-none _ _ e in
     let c10 = or-none _ _ (c9 .1) in
-    let c11 = or-none _ _ (c10 .1) in
     record {
       used = λ u h. not-not (found (find (eqb u) fs)) (lowest-none (λ u. not (found (find (eqb u) fs))) v (check-none 9 _ (c9 .0)) u h);
       together = lowest-none (parted fs (fansOf v fs)) v (check-none 10 _ (c10 .0));
-      ending = lowest-none (λ u. isEndless (fansOf v fs u)) v (check-none 11 _ (c11 .0));
-      valences = λ u h. nltb→le mostValence (valence (fansOf v fs u)) (lowest-none (λ u. ltb mostValence (valence (fansOf v fs u))) v (check-none 12 _ (c11 .1)) u h);
+      valences = λ u h. nltb→le mostValence (valence (fansOf v fs u)) (lowest-none (λ u. ltb mostValence (valence (fansOf v fs u))) v (check-none 12 _ (c10 .1)) u h);
     }
 
 pub record Stages (𝓝 : Numbers) (l : ℕ) (fs : List ℕ) (xs : List (𝓝 .N)) : Type 0 where

@@ -14,6 +14,7 @@ pub mod Totals
 pub mod Levels
 pub mod Checks
 pub mod Cage
+pub mod Ends
 pub mod Spokes
 pub mod Weights
 pub mod Growth

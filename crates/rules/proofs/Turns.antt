@@ -263,6 +263,6 @@ module _ (v n : ℕ) (fs : List ℕ) (g : Good v n fs) where
     not-endless _ (round cs r) e = absurd (let z : _≡_ {A = ℕ} 0 1 = cc in omega arith)
     not-endless _ (fringe cs r) e = absurd (let z : _≡_ {A = ℕ} 0 1 = cc in omega arith)
 
-    -- refusal 11 is never given
+    -- no fan of such a list is endless
     pub fan-ends : fan (links fs) s ≢ endless
     fan-ends = not-endless (fan (links fs) s) turned

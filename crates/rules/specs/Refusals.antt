@@ -1,13 +1,13 @@
 -- Document 01, "Refusal numbers": checked in this order, lowest place first. Assumes nothing.
 use Prim.Native.Nat.{ℕ, _+_, _*_, _/_, _%_}
-use mathlib.Core.Bool.{Bool, true, false, not, _&&_, _||_}
+use mathlib.Core.Bool.{Bool, not, _&&_, _||_}
 use mathlib.Core.List.{List, [], _∷_}
 use mathlib.Core.Option.{Option, none, some}
 use lib.Dec.{eqb, ltb, leb}
 use lib.ListN.{length, getD, take}
 use Rattle.lists.specs.Lists.{pick, find, lowest, found, tally}
 use Rattle.turns.specs.Turns.{mostValence}
-use Rattle.rules.specs.Mesh.{corner, Side, sides, links, Fan, inner, rim, endless, fan, corners, valence, cage}
+use Rattle.rules.specs.Mesh.{corner, Side, sides, links, Fan, fan, corners, valence, cage}
 use Rattle.rules.specs.Position.{Numbers}
 use Rattle.rules.specs.Levels.{Sizes, sizes, after}
 use Rattle.rules.specs.declared.Refusal.{Refusal}
@@ -64,16 +64,11 @@ same a b = eqb (a .from) (b .from) && eqb (a .to) (b .to)
 abbrev pub usedBefore : List Side → ℕ → Bool
 usedBefore ss s = found (find (same (getD ss s (record { from = 0; to = 0 }))) (take s ss))
 
--- ---- 10, 11, 12: the fans
-
-abbrev pub isEndless : Fan → Bool
-isEndless (inner cs) = false
-isEndless (rim cs) = false
-isEndless endless = true
+-- ---- 10, 12: the fans
 
 -- the fan from the start of v does not have every corner of v
 abbrev pub parted : List ℕ → (ℕ → Fan) → ℕ → Bool
-parted fs fans v = not (isEndless (fans v)) && ltb (length (corners (fans v))) (tally (eqb v) fs)
+parted fs fans v = ltb (length (corners (fans v))) (tally (eqb v) fs)
 
 -- ---- 13
 
@@ -109,7 +104,6 @@ fanRefusal v fs =
     let fans = fansOf v fs in
     check 9 (lowest (λ u. not (found (find (eqb u) fs))) v)
     orElse check 10 (lowest (parted fs fans) v)
-    orElse check 11 (lowest (λ u. isEndless (fans u)) v)
     orElse check 12 (lowest (λ u. ltb mostValence (valence (fans u))) v)
 
 -- 1 to 12, "the mesh checks"

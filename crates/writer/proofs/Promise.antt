@@ -1,13 +1,15 @@
--- Request [1], of every call that keeps the writer's promise: one outcome, nothing written by a refusal, the rest unchanged, both round trips, and the same cut. Assumes nothing.
+-- Request [1], of every call that keeps the writer's promise: one outcome, nothing written by a refusal, the rest unchanged, both round trips, and the same cut. Of request [8]: it
+-- never answers 11. Assumes nothing.
 use Prim.Native.Nat.{ℕ, _≤_}
 use mathlib.Core.Path.{_≡_, refl, sym, ap, _∙_}
+use mathlib.Core.Logic.{_≢_}
 use mathlib.Core.Bool.{Bool, true, false}
 use mathlib.Core.List.{List}
 use mathlib.Core.Option.{Option, none, some}
 use native.Mathlib.Omega.{arith}
 use lib.Dec.{ltb}
 use lib.IntN.{ℤ}
-use lib.ListN.{length, take, drop}
+use lib.ListN.{length, getD, take, drop}
 use borrow.Author.Tests.{ltb-false}
 use Rattle.lists.proofs.Stores.{drop-after, part-of}
 use Rattle.rules.specs.Position.{whole}
@@ -17,6 +19,7 @@ use Rattle.rules.specs.Sheets.{badSheet, sheetLevels, sheetIndices, sheetCoords
 use Rattle.rules.specs.declared.Refusal.{Refusal}
 use Rattle.rules.specs.declared.Counts.{Counts}
 use Rattle.rules.proofs.Checks.{or-none}
+use Rattle.rules.proofs.Ends.{Never, never-or, never-check, mesh-never-eleven}
 use Rattle.rules.specs.Calls.{Lent}
 use Rattle.writer.specs.Writing.{writeRefusal, writtenOr, writtenOf, bytesLeft, WriteCall, writtenAnswer, WriteTold}
 use Rattle.writer.specs.declared.Written.{Written}
@@ -96,3 +99,22 @@ module _ (l : ℕ) (fs : List ℕ) (xs : List ℤ) (bs : Lent (List ℕ)) where
 -- "writing what was read, where not refused, gives the same bytes"
 pub same-bytes : (b : List ℕ) → Bytes b → badSheet b ≡ false → (bs : Lent (List ℕ)) (n : ℕ) → WriteCall (sheetLevels b) (sheetIndices b) (sheetCoords b) bs (written.Bytes n) → take n (bs .new) ≡ b
 same-bytes b h good bs n c = sheet-in-front (sheetLevels b) (sheetIndices b) (sheetCoords b) bs n c ∙ write-back b h good
+
+-- ---- [8]: "No number is used again"
+
+never-written : (a : Option Refusal) (n : ℕ) → Never a → getD (writtenAnswer (writtenOr a n)) 0 0 ≢ 11
+never-written none n p = λ e. omega arith
+never-written (some r) n p = p r refl
+
+pub written-never-eleven : (room l : ℕ) (fs : List ℕ) (xs : List ℤ) → getD (writtenAnswer (writtenOf room l fs xs)) 0 0 ≢ 11
+unfolding writtenOf writeRefusal
+written-never-eleven room l fs xs =
+    let n = length (sheetBytes l fs xs) in
+    let short = when (ltb room n) in
+    let all = meshRefusal whole l fs xs in
+    never-written (all orElse check 17 short) n (never-or all (check 17 short) (mesh-never-eleven whole l fs xs) (never-check 17 short tt))
+
+pub never-eleven : (l : ℕ) (fs : List ℕ) (xs : List ℤ) (bs : Lent (List ℕ)) (told : List ℕ) → WriteTold l fs xs bs told → getD told 0 0 ≢ 11
+never-eleven l fs xs bs told t e =
+    written-never-eleven (length (bs .old)) l fs xs
+    (ap (λ (w : Written). getD (writtenAnswer w) 0 0) (sym (t .kept .answer)) ∙ ap (λ (x : List ℕ). getD x 0 0) (sym (t .three)) ∙ e)

@@ -18,7 +18,7 @@ returns-2 : tie.Need-returns-2
 returns-2 c = rw (c .before .t2 .given .1)
 
 returns-3 : tie.Need-returns-3
-returns-3 c = search needs
+returns-3 c = rw (c .enum-told .given .1)
 
 pub short-spec : {M : Type 1} → statement M
 short-spec = tie.close (tie.spec enum-known-t enum-known-t-2 enum-told returns returns-2 returns-3)

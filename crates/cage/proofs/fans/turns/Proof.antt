@@ -12,23 +12,23 @@ use lib.Dec.{eqb, ltb}
 use Rattle.lists.specs.Lists.{lowest, tally}
 use Rattle.turns.specs.Turns.{mostValence}
 use Rattle.rules.specs.Mesh.{valence}
-use Rattle.rules.specs.Refusals.{check, isEndless, parted, fansOf}
+use Rattle.rules.specs.Refusals.{check, parted, fansOf}
 use Rattle.faces.specs.Rings.{turnOf, valenceOf}
 use Rattle.cage.specs.Verdicts.{verdictOf}
 use Rattle.cage.specs.declared.Check.the-variants.{Pass}
-use Rattle.cage.specs.Fans.{lostOf, placeOr}
+use Rattle.cage.specs.Fans.{placeOr}
 use Rattle.cage.proofs.Search.{or-stops, or-goes, lowest-here, lowest-nowhere, first-more, placed, unplaced}
-use Rattle.cage.proofs.Rounds.{fan-at, short-is, lost-is, wide-is}
+use Rattle.cage.proofs.Rounds.{fan-at, short-is, wide-is}
 use Rattle.cage.proofs.fans.turns.Statement.{statement}
 use Rattle.cage.proofs.fans.turns.Tie as tie
 
 abbrev Inv-loop : tie.InvT-loop
-Inv-loop indices heads counts words v endless₀ crowded₀ u₀ endless crowded u =
-    (u ≤ v) × ((j : ℕ) → j < u → parted indices (fansOf v indices) j ≡ false) × (endless ≡ placeOr v (lowest (λ x. isEndless (fansOf v indices x)) u))
+Inv-loop indices heads counts words v crowded₀ u₀ crowded u =
+    (u ≤ v) × ((j : ℕ) → j < u → parted indices (fansOf v indices) j ≡ false)
     × (crowded ≡ placeOr v (lowest (λ x. ltb mostValence (valence (fansOf v indices x))) u))
 
 abbrev μ-loop : tie.MeasureT-loop
-μ-loop indices heads counts words v endless₀ crowded₀ u₀ endless crowded u = v - u
+μ-loop indices heads counts words v crowded₀ u₀ crowded u = v - u
 
 turned :
     (k : tie.After-turn-at Inv-loop μ-loop) →
@@ -51,17 +51,11 @@ is-parted k =
     s .pre .1 .0 .0 .each u (omega (arith, s .pre .1 .0 .1, k .before .before .before .loop-test .taken)) ∙ ap (tally (eqb u)) (take-length fs) in
     sym (k .short .ensures ∙ rw (turned (k .before .before), n) (short-is f (tally (eqb u) fs)))
 
-is-lost :
-    (k : tie.After-lost Inv-loop μ-loop) →
-    (let s = k .before .before .before .before .before .before .before .before .before .before .before in
-    k .lost .result ≡ isEndless (fansOf (s .args .v) (now (s .args .indices)) (k .before .before .before .before .before .before .loop .u)))
-is-lost k = k .lost .ensures ∙ ap lostOf (turned (k .before .before .before .before)) ∙ lost-is (fansOf (k .before .before .before .before .before .before .before .before .before .before .before .args .v) (now (k .before .before .before .before .before .before .before .before .before .before .before .args .indices)) (k .before .before .before .before .before .before .loop .u))
-
 is-wide :
     (k : tie.After-wide Inv-loop μ-loop) →
-    (let s = k .before .before .before .before .before .before .before .before .before .before .before .before .before in
-    k .wide .result ≡ ltb mostValence (valence (fansOf (s .args .v) (now (s .args .indices)) (k .before .before .before .before .before .before .before .before .loop .u))))
-is-wide k = k .wide .ensures ∙ ap (λ t. ltb mostValence (valenceOf t)) (turned (k .before .before .before .before .before .before)) ∙ wide-is (fansOf (k .before .before .before .before .before .before .before .before .before .before .before .before .before .args .v) (now (k .before .before .before .before .before .before .before .before .before .before .before .before .before .args .indices)) (k .before .before .before .before .before .before .before .before .loop .u))
+    (let s = k .before .before .before .before .before .before .before .before .before .before .before in
+    k .wide .result ≡ ltb mostValence (valence (fansOf (s .args .v) (now (s .args .indices)) (k .before .before .before .before .before .before .loop .u))))
+is-wide k = k .wide .ensures ∙ ap (λ t. ltb mostValence (valenceOf t)) (turned (k .before .before .before .before)) ∙ wide-is (fansOf (k .before .before .before .before .before .before .before .before .before .before .before .args .v) (now (k .before .before .before .before .before .before .before .before .before .before .before .args .indices)) (k .before .before .before .before .before .before .loop .u))
 
 no-ten :
     (k : tie.After-loop Inv-loop μ-loop) →
@@ -71,21 +65,8 @@ no-ten k =
     let s = k .before .before .before .before .before .before in
     lowest-nowhere 10 (parted (now (s .args .indices)) (fansOf (s .args .v) (now (s .args .indices)))) (s .args .v) (λ j h. k .before .loop .inv .1 j (omega (arith, k .loop-test .left)))
 
-no-lost :
-    (k : tie.Else2 Inv-loop μ-loop) →
-    (let s = k .before .before .before .before .before .before .before in
-    verdictOf (check 11 (lowest (λ x. isEndless (fansOf (s .args .v) (now (s .args .indices)) x)) (s .args .v))) ≡ Pass)
-no-lost k =
-    let s = k .before .before .before .before .before .before .before in
-    let v = s .args .v in
-    let l = k .before .before .loop in
-    let e : l .u ≡ v = omega (arith, k .before .loop-test .left, l .inv .0) in
-    let p : ℕ → Bool = λ x. isEndless (fansOf v (now (s .args .indices)) x) in
-    let z : l .endless ≡ placeOr v (lowest p v) = rw e at (l .inv .2) in
-    rw (unplaced p v (rw z at (k .if2 .left)))
-
 loop-holds : tie.Need-loop-holds Inv-loop μ-loop
-loop-holds c = (omega arith, λ j h. absurd (omega arith), refl, refl)
+loop-holds c = (omega arith, λ j h. absurd (omega arith), refl)
 
 turn-at-requires : tie.Need-turn-at-requires Inv-loop μ-loop
 turn-at-requires c κs =
@@ -118,17 +99,11 @@ returns c =
     c .no .ensures ∙ sym (or-stops (check 10 (lowest (parted fs (fansOf v fs)) v)) _ _
     (lowest-here 10 (parted fs (fansOf v fs)) v (l .u) (c .before .before .before .before .before .loop-test .taken) (is-parted (c .before .before) ∙ c .before .if1 .taken) (l .inv .1)))
 
-lost-requires : tie.Need-lost-requires Inv-loop μ-loop
-lost-requires c κs = search needs
-
 first-requires : tie.Need-first-requires Inv-loop μ-loop
 first-requires c κs = search needs
 
 wide-requires : tie.Need-wide-requires Inv-loop μ-loop
 wide-requires c κs = search needs
-
-first-requires-2 : tie.Need-first-requires-2 Inv-loop μ-loop
-first-requires-2 c κs = search needs
 
 add-u : tie.Need-add-u Inv-loop μ-loop
 add-u c = search needs
@@ -138,17 +113,15 @@ loop-less c = search needs
 
 loop-again : tie.Need-loop-again Inv-loop μ-loop
 loop-again c =
-    let s = c .before .before .before .before .before .before .before .before .before .before .before .before .before .before in
+    let s = c .before .before .before .before .before .before .before .before .before .before .before .before in
     let fs = now (s .args .indices) in
     let v = s .args .v in
-    let l = c .before .before .before .before .before .before .before .before .before .loop in
-    let h = c .before .before .before .before .before .before .before .before .loop-test .taken in (
+    let l = c .before .before .before .before .before .before .before .loop in
+    let h = c .before .before .before .before .before .before .loop-test .taken in (
       omega (arith, h),
-      below-more _ _ (l .inv .1) (is-parted (c .before .before .before .before .before) ∙ c .before .before .before .before .if1 .left),
-      c .before .before .first .ensures
-          ∙ rw (is-lost (c .before .before .before), l .inv .2) (first-more (λ x. isEndless (fansOf v fs x)) v (l .u) h),
-      c .first2 .ensures
-          ∙ rw (is-wide (c .before), l .inv .3) (first-more (λ x. ltb mostValence (valence (fansOf v fs x))) v (l .u) h),
+      below-more _ _ (l .inv .1) (is-parted (c .before .before .before) ∙ c .before .before .if1 .left),
+      c .first .ensures
+          ∙ rw (is-wide (c .before), l .inv .2) (first-more (λ x. ltb mostValence (valence (fansOf v fs x))) v (l .u) h),
     )
 
 cast-no-2 : tie.Need-cast-no-2 Inv-loop μ-loop
@@ -164,42 +137,21 @@ returns-2 c =
     let v = s .args .v in
     let l = c .before .before .before .loop in
     let e : l .u ≡ v = omega (arith, c .before .before .loop-test .left, l .inv .0) in
-    let p : ℕ → Bool = λ x. isEndless (fansOf v fs x) in
-    let z : l .endless ≡ placeOr v (lowest p v) = rw e at (l .inv .2) in
-    let q : lowest p v ≡ some (l .endless) = rw z (placed p v (rw z at (c .before .if2 .taken))) in
-    c .no2 .ensures ∙ sym (or-goes (check 10 (lowest (parted fs (fansOf v fs)) v)) _ (no-ten (c .before .before))
-    ∙ or-stops (check 11 (lowest p v)) _ _ (rw q))
-
-cast-no-3 : tie.Need-cast-no-3 Inv-loop μ-loop
-cast-no-3 c = omega (arith, c .before .before .before .before .before .before .before .before .pre .1 .0)
-
-no-requires-3 : tie.Need-no-requires-3 Inv-loop μ-loop
-no-requires-3 c κs = search needs
+    let p : ℕ → Bool = λ x. ltb mostValence (valence (fansOf v fs x)) in
+    let z : l .crowded ≡ placeOr v (lowest p v) = rw e at (l .inv .2) in
+    let q : lowest p v ≡ some (l .crowded) = rw z (placed p v (rw z at (c .before .if2 .taken))) in
+    c .no2 .ensures ∙ sym (or-goes (check 10 (lowest (parted fs (fansOf v fs)) v)) _ (no-ten (c .before .before)) ∙ rw q)
 
 returns-3 : tie.Need-returns-3 Inv-loop μ-loop
 returns-3 c =
-    let s = c .before .before .before .before .before .before .before .before .before in
+    let s = c .before .before .before .before .before .before .before in
     let fs = now (s .args .indices) in
     let v = s .args .v in
-    let l = c .before .before .before .before .loop in
-    let e : l .u ≡ v = omega (arith, c .before .before .before .loop-test .left, l .inv .0) in
+    let l = c .before .before .loop in
+    let e : l .u ≡ v = omega (arith, c .before .loop-test .left, l .inv .0) in
     let p : ℕ → Bool = λ x. ltb mostValence (valence (fansOf v fs x)) in
-    let z : l .crowded ≡ placeOr v (lowest p v) = rw e at (l .inv .3) in
-    let q : lowest p v ≡ some (l .crowded) = rw z (placed p v (rw z at (c .before .if3 .taken))) in
-    c .no3 .ensures ∙ sym (or-goes (check 10 (lowest (parted fs (fansOf v fs)) v)) _ (no-ten (c .before .before .before))
-    ∙ or-goes (check 11 (lowest (λ x. isEndless (fansOf v fs x)) v)) _ (no-lost (c .before .before)) ∙ rw q)
-
-returns-4 : tie.Need-returns-4 Inv-loop μ-loop
-returns-4 c =
-    let s = c .before .before .before .before .before .before .before .before in
-    let fs = now (s .args .indices) in
-    let v = s .args .v in
-    let l = c .before .before .before .loop in
-    let e : l .u ≡ v = omega (arith, c .before .before .loop-test .left, l .inv .0) in
-    let p : ℕ → Bool = λ x. ltb mostValence (valence (fansOf v fs x)) in
-    let z : l .crowded ≡ placeOr v (lowest p v) = rw e at (l .inv .3) in
-    sym (or-goes (check 10 (lowest (parted fs (fansOf v fs)) v)) _ (no-ten (c .before .before))
-    ∙ or-goes (check 11 (lowest (λ x. isEndless (fansOf v fs x)) v)) _ (no-lost (c .before)) ∙ rw (unplaced p v (rw z at (c .if3 .left))))
+    let z : l .crowded ≡ placeOr v (lowest p v) = rw e at (l .inv .2) in
+    sym (or-goes (check 10 (lowest (parted fs (fansOf v fs)) v)) _ (no-ten (c .before)) ∙ rw (unplaced p v (rw z at (c .if2 .left))))
 
 pub turns-spec : {M : Type 1} → statement M
 turns-spec =
@@ -215,17 +167,12 @@ turns-spec =
     cast-no
     no-requires
     returns
-    lost-requires
-    first-requires
     wide-requires
-    first-requires-2
+    first-requires
     add-u
     loop-less
     loop-again
     cast-no-2
     no-requires-2
     returns-2
-    cast-no-3
-    no-requires-3
-    returns-3
-    returns-4)
+    returns-3)
