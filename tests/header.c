@@ -9,8 +9,8 @@
 #include <sys/mman.h>
 #include "plates.h"
 
-enum { WHOLE, SINGLE, SHEET, SHEETS, CALLS, THREADS = 4, PAGE = 65536 };
-static const char *const CALL[CALLS] = {"whole", "f32", "sheet", "sheets"};
+enum { WHOLE, SINGLE, SHEET, SHEETS, LOOPS, CALLS, THREADS = 4, PAGE = 65536 };
+static const char *const CALL[CALLS] = {"whole", "f32", "sheet", "sheets", "loops"};
 
 static int passed, failed;
 
@@ -33,8 +33,8 @@ typedef struct {
 } Cage;
 
 typedef struct {
-    uint32_t *positions, *normals, *out, *words, *work, told[5];
-    size_t lent[5];
+    uint32_t *positions, *normals, *out, *words, *work, *list, told[5];
+    size_t lent[6];
 } Lent;
 
 /* what a call takes, made before it, so that its thread does nothing else */
@@ -55,12 +55,12 @@ static uint32_t *some(size_t n) {
 }
 
 static Lent *ample(void) {
-    static const size_t lent[5] = {PLATES_ROOM_POSITIONS, PLATES_ROOM_POSITIONS, PLATES_ROOM_OUT, PLATES_ROOM_WORDS, PLATES_ROOM_WORK};
+    static const size_t lent[6] = {PLATES_ROOM_POSITIONS, PLATES_ROOM_POSITIONS, PLATES_ROOM_OUT, PLATES_ROOM_WORDS, PLATES_ROOM_WORK, PLATES_ROOM_LIST};
     Lent *l = calloc(1, sizeof *l);
     if (!l)
         exit(2);
     memcpy(l->lent, lent, sizeof lent);
-    l->positions = some(lent[0]), l->normals = some(lent[1]), l->out = some(lent[2]), l->words = some(lent[3]), l->work = some(lent[4]);
+    l->positions = some(lent[0]), l->normals = some(lent[1]), l->out = some(lent[2]), l->words = some(lent[3]), l->work = some(lent[4]), l->list = some(lent[5]);
     return l;
 }
 
@@ -92,6 +92,9 @@ static void *run(void *given) {
     else if (t->kind == SHEET)
         plates_subdivide_sheet(t->sheet, t->bytes, (int32_t *)l->positions, l->lent[0], l->out, l->lent[2], l->words, l->lent[3], (int32_t *)l->work, l->lent[4],
                                l->told);
+    else if (t->kind == LOOPS)
+        plates_rim_loops(c->levels, c->indices, c->corners, c->coords, c->numbers, (int32_t *)l->positions, l->lent[0], l->out, l->lent[2], l->words, l->lent[3],
+                         (int32_t *)l->work, l->lent[4], l->list, l->lent[5], l->told);
     else {
         uint32_t length = (uint32_t)t->bytes;
         uint32_t number = plates_subdivide_sheets(t->sheet, t->bytes, &length, 1, (int32_t *)l->positions, l->lent[0], l->out, l->lent[2], l->words, l->lent[3],
@@ -259,6 +262,9 @@ static void make_cages(void) {
 static int said(const Task *t) {
     if (t->kind == SINGLE && t->cage->told[0] == PLATES_COORDINATE_OUT_OF_RANGE)
         return t->lent->told[0] == PLATES_DONE;
+    if (t->kind == LOOPS) /* the refusal, or as many vertices listed as there are rim sides, in loops of three at least */
+        return t->lent->told[0] == t->cage->told[0] && t->lent->told[1] == t->cage->told[1] && t->lent->told[3] == t->cage->told[4] &&
+               3 * t->lent->told[2] <= t->cage->told[4] && !t->lent->told[2] == !t->cage->told[4];
     return memcmp(t->lent->told, t->cage->told, sizeof t->lent->told) == 0;
 }
 
@@ -269,7 +275,7 @@ static void small_threads(void) {
     for (size_t i = 0; i < made; i++)
         for (int kind = 0; kind < CALLS; kind++) {
             Task *t = task(kind, cages[i], lent);
-            end(begin(t, kind == SHEET || kind == SHEETS ? PLATES_STACK_SHEET : PLATES_STACK));
+            end(begin(t, kind == WHOLE || kind == SINGLE ? PLATES_STACK : PLATES_STACK_SHEET));
             expect(cages[i]->name, CALL[kind], said(t));
             free(t);
         }
@@ -319,7 +325,8 @@ static void rooms(void) {
 static int tells(const uint32_t *told, uint32_t number, uint32_t place) { return told[0] == number && told[1] == place && !told[2] && !told[3] && !told[4]; }
 
 static void nulls(void) {
-    uint32_t told[5], corner = 0;
+    uint32_t told[5], corner = 0, is[3], ws[40];
+    int32_t ps[9], cs[18];
     static const uint32_t t[3] = {0, 1, 2};
     static const int32_t xs[9] = {0, 0, 0, 8, 0, 0, 0, 8, 0};
     static const float fs[9] = {0, 0, 0, 8, 0, 0, 0, 8, 0};
@@ -331,6 +338,8 @@ static void nulls(void) {
     expect("NULL for all", "sheet", tells(told, PLATES_NOT_A_SHEET, 0));
     plates_write_sheet(7, NULL, 0, NULL, 0, NULL, 0, told);
     expect("NULL for all", "writer", told[0] == PLATES_NO_ROOM_FOR_SHEET && !told[1] && !told[2]);
+    plates_rim_loops(7, NULL, 0, NULL, 0, NULL, 0, NULL, 0, NULL, 0, NULL, 0, NULL, 0, told);
+    expect("NULL for all", "loops", !told[0] && !told[1] && !told[2] && !told[3]);
     expect("NULL for all", "sheets", plates_subdivide_sheets(NULL, 0, NULL, 0, NULL, 0, NULL, 0, NULL, 0, NULL, 0, NULL, 0) == PLATES_DONE);
     expect("NULL for all but a byte", "sheets", plates_subdivide_sheets((const uint8_t *)told, 1, NULL, 0, NULL, 0, NULL, 0, NULL, 0, NULL, 0, NULL, 0) == PLATES_BAD_BATCH);
     plates_loop_subdivide_whole(8, NULL, 0, NULL, 0, NULL, 0, NULL, 0, NULL, 0, NULL, 0, NULL, 0, told);
@@ -345,6 +354,8 @@ static void nulls(void) {
     expect("vertices and no faces", "whole", tells(told, PLATES_VERTEX_ON_NO_FACE, 0));
     plates_loop_subdivide_whole(0, t, 3, xs, 9, t, 1, NULL, 0, NULL, 0, NULL, 0, NULL, 0, told);
     expect("a rim side listed as sharp", "whole", tells(told, PLATES_SIDE_CANNOT_BE_SHARP, 0));
+    plates_rim_loops(0, t, 3, xs, 9, ps, 9, is, 3, ws, 40, cs, 18, NULL, 0, told);
+    expect("NULL for the list", "loops", told[0] == PLATES_NO_ROOM_FOR_LOOPS && !told[1] && !told[2] && !told[3]);
     for (uint32_t levels = 0; levels < 8; levels++) {
         plates_loop_subdivide_whole(levels, t, 3, xs, 9, NULL, 0, NULL, 0, NULL, 0, NULL, 0, NULL, 0, told);
         expect("NULL for the buffers", "whole", tells(told, PLATES_BUFFER_SHORT, 0));

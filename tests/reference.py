@@ -1,8 +1,8 @@
 #!/usr/bin/env python3
-"""An independent reference of both engines, the checks, the sheets, their writer, batches of sheets, `platecut`, `makesheet` and `fontcut`, from docs/RULES.md alone.
+"""An independent reference of both engines, the checks, the sheets, their writer, batches of sheets, rim loops, `platecut`, `makesheet`, `fontcut` and `outline`, from docs/RULES.md alone.
 
 It shares no code with the Rattle crates or the oracle, searches where they keep links, and works in Python's own whole numbers and
-fractions. `python3 tests/reference.py < sheet` prints what `platecut` prints.
+fractions. `python3 tests/reference.py < sheet` prints what `platecut` prints, and with the word outline what `outline` does.
 
 A cage is levels, a flat list of corner numbers and a flat list of coordinates: whole numbers (kind WHOLE) or f32 bits (kind F32). A sharp edge is the set of its two ends.
 """
@@ -551,5 +551,46 @@ def fontcut(given):
     return "".join(text)
 
 
+# ---- rims as outlines
+
+def rim_loops(indices):
+    """The rim of a face list as loops of vertices: each from its lowest on in the faces' direction, in order of that vertex."""
+    sides = {(a, b) for face in triples(indices) for a, b in zip(face, (*face[1:], face[0]))}
+    onward = {a: b for a, b in sides if (b, a) not in sides}
+    loops, met = [], set()
+    for first in sorted(onward):
+        if first not in met:
+            loop = [first]
+            while onward[loop[-1]] != first:
+                loop.append(onward[loop[-1]])
+            met.update(loop)
+            loops.append(loop)
+    return loops
+
+
+def loop_list(loops):
+    """Each loop after its length."""
+    return [word for loop in loops for word in (len(loop), *loop)]
+
+
+def outline(sheet):
+    """What `outline` prints."""
+    try:
+        if len(sheet) > 32768:
+            raise Refused(16)
+        plate = loop_subdivide_whole(*read_sheet(sheet), needed(512, 512, WHOLE))
+        loops = rim_loops(plate.indices)
+        if len(loop_list(loops)) > 682:
+            raise Refused(20)
+    except Refused as refusal:
+        return f"{refusal}\n"
+    points = list(triples(plate.positions))
+    lines = [f"outlines {len(loops)} {sum(map(len, loops))}"]
+    for loop in loops:
+        lines += [f"loop {len(loop)}", *("v {} {} {}".format(*points[v]) for v in loop)]
+    return "".join(line + "\n" for line in lines)
+
+
 if __name__ == "__main__":
-    sys.stdout.write(platecut(sys.stdin.buffer.read(32769)))
+    printed = outline if sys.argv[1:] == ["outline"] else platecut
+    sys.stdout.write(printed(sys.stdin.buffer.read(32769)))

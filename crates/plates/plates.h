@@ -1,7 +1,7 @@
 /* Loop subdivision to the limit surface. No call allocates, keeps anything between calls, or reads or writes past the lengths that it is given.
 
    A cage is `levels` (0 to 7), `indices`, three corner numbers to a face, and `coords`, three coordinates to a vertex. Lengths count entries, not bytes, and may be
-   anything: a cage or a buffer that will not do is refused. The buffers that are written (positions, normals, out, words, work, told) must not overlap each other, the
+   anything: a cage or a buffer that will not do is refused. The buffers that are written (positions, normals, out, words, work, list, told) must not overlap each other, the
    cage or `sharp`. A pointer may be NULL where its length is 0, as an empty vector's is; `told` may not.
 
    With F faces and V vertices at the last level, positions and normals need 3V entries, out 3F, words 16F+8V, work 6V. After success each has its result in front,
@@ -12,7 +12,7 @@
    (docs/HANDBOOK.md), and the rest is 0.
 
    Any number of threads may call at once, each with buffers of its own; a cage may be shared. A call on lists takes less than PLATES_STACK bytes of its
-   thread's stack, the call on a sheet less than PLATES_STACK_SHEET. */
+   thread's stack, a call on sheets and the one for rim loops less than PLATES_STACK_SHEET. */
 #ifndef PLATES_H
 #define PLATES_H
 
@@ -24,10 +24,10 @@ extern "C" {
 #endif
 
 /* Counts up when something in this file changes, or what a call answers. */
-#define PLATES_VERSION 7
+#define PLATES_VERSION 8
 
 /* The stack that a call may take, in bytes: give a thread as much, and what its own functions take besides. Where a system gives a thread 128 KB, the calls on lists run in it;
-   the call on a sheet holds the sheet's lists too. */
+   a call on sheets holds the sheet's lists too, and the one for rim loops tables of the cage. */
 #define PLATES_STACK 114688       /* 112 KB */
 #define PLATES_STACK_SHEET 212992 /* 208 KB */
 
@@ -40,6 +40,7 @@ extern "C" {
 #define PLATES_ROOM_OUT (3 * PLATES_MOST)       /* 98,304 */
 #define PLATES_ROOM_WORDS (24 * PLATES_MOST)    /* 786,432, as 16F+8V */
 #define PLATES_ROOM_WORK (6 * PLATES_MOST)      /* 196,608 */
+#define PLATES_ROOM_LIST (PLATES_MOST + PLATES_MOST_IN_CAGE / 3) /* 34,133: every vertex on the rim, and as many loops as a cage can have, of three sides each */
 
 /* What told[0] says. docs/HANDBOOK.md has a section on each, with what the place counts and what to do. (16 is the programs' alone: the input is too long. 11 is not used.) */
 enum plates_refusal {
@@ -60,7 +61,8 @@ enum plates_refusal {
     PLATES_NOT_A_SHEET = 15,
     PLATES_NO_ROOM_FOR_SHEET = 17,
     PLATES_SIDE_CANNOT_BE_SHARP = 18,
-    PLATES_BAD_BATCH = 19 /* the number that plates_subdivide_sheets returns */
+    PLATES_BAD_BATCH = 19, /* the number that plates_subdivide_sheets returns */
+    PLATES_NO_ROOM_FOR_LOOPS = 20
 };
 
 /* Whole micrometres, -1,000,000,000 to 1,000,000,000. `sharp` lists sides whose edges stay sharp (docs/RULES.md): side 3 f + k of face f runs from its corner k to the next.
@@ -115,6 +117,20 @@ uint32_t plates_subdivide_sheets(const uint8_t *bytes, size_t bytes_length,
                                  uint32_t *words, size_t words_length,
                                  int32_t *work, size_t work_length,
                                  uint32_t *answers, size_t answers_length);
+
+/* The whole call with no sharp edge, and the rim of the last level as loops of vertex numbers in the front of `list`: each loop's length, then its vertices along the rim in the
+   faces' direction, from the lowest on; the loops in order of that vertex. told[0] is 0 and told[2], told[3] are the loops and the vertices listed, which take told[2] + told[3]
+   entries; entries past them are unchanged. Or told[0] is a refusal's number as of the whole call, or 20 where `list` is too short, told[1] its place, the rest 0, and nothing
+   else is written. A closed mesh has no loops and needs no list. After L levels the rim has 2^L times the rim sides of the cage, in as many loops as the cage's. */
+void plates_rim_loops(uint32_t levels,
+                      const uint32_t *indices, size_t indices_length,
+                      const int32_t *coords, size_t coords_length,
+                      int32_t *positions, size_t positions_length,
+                      uint32_t *out, size_t out_length,
+                      uint32_t *words, size_t words_length,
+                      int32_t *work, size_t work_length,
+                      uint32_t *list, size_t list_length,
+                      uint32_t told[4]);
 
 #ifdef __cplusplus
 }

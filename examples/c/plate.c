@@ -26,6 +26,7 @@ static const char *name(uint32_t refusal) {
     case PLATES_NO_ROOM_FOR_SHEET: return "no room for the sheet";
     case PLATES_SIDE_CANNOT_BE_SHARP: return "a listed side cannot be sharp";
     case PLATES_BAD_BATCH: return "the batch does not add up";
+    case PLATES_NO_ROOM_FOR_LOOPS: return "no room for the loops";
     default: return "no refusal";
     }
 }

@@ -43,6 +43,17 @@ extern "C" {
         work: *mut i32, work_len: usize,
         answers: *mut u32, answers_len: usize,
     ) -> u32;
+    fn plates_rim_loops(
+        levels: u32,
+        indices: *const u32, indices_len: usize,
+        coords: *const i32, coords_len: usize,
+        positions: *mut i32, positions_len: usize,
+        out: *mut u32, out_len: usize,
+        words: *mut u32, words_len: usize,
+        work: *mut i32, work_len: usize,
+        list: *mut u32, list_len: usize,
+        told: *mut u32,
+    );
 }
 
 /// No level has more faces or vertices than this, so room for as many is room for every answer.
@@ -50,6 +61,9 @@ const MOST: usize = 32_768;
 
 /// The longest sheet: 4,096 vertices, 4,096 faces and the trailer.
 const MOST_BYTES: usize = 12 * 4_096 + 12 * 4_096 + 20;
+
+/// A loop has three sides at least, and begins at a vertex of the cage.
+const MOST_LOOPS: usize = 4_096 / 3;
 
 fn threes<T: Copy>(list: &[T]) -> Vec<[T; 3]> {
     list.chunks_exact(3).map(|c| [c[0], c[1], c[2]]).collect()
@@ -147,6 +161,40 @@ pub fn subdivide_sheets(sheets: &[&[u8]]) -> Result<Vec<Result<Mesh, Refusal>>, 
         .collect())
 }
 
+/// The rim of a plate as loops of points, in the faces' direction, for a tool that follows it. A closed plate has none.
+pub fn outline(levels: u32, indices: &[u32], coords: &[i32]) -> Result<Vec<Vec<[i32; 3]>>, Refusal> {
+    let mut positions = vec![0i32; 3 * MOST];
+    let mut out = vec![0u32; 3 * MOST];
+    let mut words = vec![0u32; 24 * MOST];
+    let mut work = vec![0i32; 6 * MOST];
+    let mut list = vec![0u32; MOST + MOST_LOOPS];
+    let mut told = [0u32; 4];
+    // SAFETY: as above.
+    unsafe {
+        plates_rim_loops(
+            levels,
+            indices.as_ptr(), indices.len(),
+            coords.as_ptr(), coords.len(),
+            positions.as_mut_ptr(), positions.len(),
+            out.as_mut_ptr(), out.len(),
+            words.as_mut_ptr(), words.len(),
+            work.as_mut_ptr(), work.len(),
+            list.as_mut_ptr(), list.len(),
+            told.as_mut_ptr(),
+        );
+    }
+    let [number, place, loops, _] = told;
+    if number != 0 {
+        return Err(Refusal { number, place });
+    }
+    let points = threes(&positions);
+    let mut entries = list.into_iter();
+    Ok((0..loops).map(|_| {
+        let length = entries.next().map_or(0, |n| n as usize);
+        entries.by_ref().take(length).map(|v| points[v as usize]).collect()
+    }).collect())
+}
+
 fn main() {
     let triangle = [0, 0, 0, 8, 0, 0, 0, 8, 0];
     match loop_subdivide_whole(1, &[0, 1, 2], &triangle, &[]) {
@@ -173,6 +221,12 @@ fn main() {
     for (levels, indices) in [(1, vec![0, 1, 2]), (0, vec![0, 1, 3])] {
         match write_sheet(levels, &indices, &triangle) {
             Ok(sheet) => println!("sheet {}", sheet.iter().map(|b| format!("{b:02x}")).collect::<String>()),
+            Err(r) => println!("refused {} at {}", r.number, r.place),
+        }
+    }
+    for levels in [1, 8] {
+        match outline(levels, &[0, 1, 2], &triangle) {
+            Ok(loops) => println!("loops {loops:?}"),
             Err(r) => println!("refused {} at {}", r.number, r.place),
         }
     }

@@ -11,7 +11,7 @@ ghost use Rattle.listing.specs.Text.{Put, bias, numeral, signedNumeral, 
 use rules::Counts;
 use rules::Refusal;
 
-fn byte(text: &mut [u8], at: usize, b: u8) -> usize
+pub fn byte(text: &mut [u8], at: usize, b: u8) -> usize
     requires { ⌜ at + 1 ≤ length (now text) ⌝ }
     ensures { λ r. ⌜ Put (now (text .entry)) at (b ∷ []) (now (text .exit)) r ⌝ }
 {
@@ -19,7 +19,7 @@ fn byte(text: &mut [u8], at: usize, b: u8) -> usize
     at + 1
 }
 
-fn word(text: &mut [u8], at: usize, w: &[u8]) -> usize
+pub fn word(text: &mut [u8], at: usize, w: &[u8]) -> usize
     requires { ⌜ at + length (now w) ≤ length (now text) ⌝ }
     ensures { λ r. ⌜ Put (now (text .entry)) at (now (w .entry)) (now (text .exit)) r ⌝ }
 {
@@ -58,7 +58,7 @@ fn signed(text: &mut [u8], at: usize, x: i32) -> usize
     number(text, at, b - 2147483648)
 }
 
-fn spaced_number(text: &mut [u8], at: usize, n: u32) -> usize
+pub fn spaced_number(text: &mut [u8], at: usize, n: u32) -> usize
     requires { ⌜ at + 21 ≤ length (now text) ⌝ }
     ensures { λ r. ⌜ Put (now (text .entry)) at (spaced (numeral n)) (now (text .exit)) r ⌝ }
     ensures { λ r. ⌜ r ≤ at + 21 ⌝ }
@@ -97,7 +97,7 @@ fn mesh_line(text: &mut [u8], c: Counts) -> usize
     three_numbers(text, at, c.vertices, c.faces, c.rims)
 }
 
-fn vertex_line(text: &mut [u8], at: usize, p: &[i32], v: usize) -> usize
+pub fn vertex_line(text: &mut [u8], at: usize, p: &[i32], v: usize) -> usize
     requires { ⌜ (at + 68 ≤ length (now text)) × (3 * v + 3 ≤ length (now p)) ⌝ }
     ensures { λ r. ⌜ Put (now (text .entry)) at (vertexLine (now (p .entry)) v) (now (text .exit)) r ⌝ }
     ensures { λ r. ⌜ r ≤ at + 68 ⌝ }

@@ -19,7 +19,8 @@ use rules::Outcome;
 pub mod micrometres;
 pub mod points;
 
-fn judge_whole(
+// The outcome of a call on buffers of these lengths: nothing is written for it.
+pub fn judge_whole(
     levels: u32,
     indices: &[u32],
     coords: &[i32],
@@ -75,6 +76,37 @@ fn act(
     );
 }
 
+// The acting half of the whole call, once its outcome is known.
+pub fn act_whole(
+    c: Counts,
+    levels: u32,
+    indices: &[u32],
+    coords: &[i32],
+    sharp: &[u32],
+    positions: &mut [i32],
+    out: &mut [u32],
+    words: &mut [u32],
+    work: &mut [i32],
+)
+    requires { ⌜ sharpOutcome whole (wholeRooms (length (now positions)) (length (now out)) (length (now words)) (length (now work))) levels (now sharp) (now indices) (now coords) ≡ Outcome.Success c ⌝ }
+    ensures { λ r. ⌜ SharpCall levels (given sharp) (given indices) (given coords) (buffers positions out words work) (Outcome.Success c) ⌝ }
+{
+    let nf = c.faces as usize;
+    let nv = c.vertices as usize;
+    act(
+        levels,
+        indices,
+        coords,
+        sharp,
+        nf,
+        nv,
+        positions,
+        out,
+        words,
+        work,
+    );
+}
+
 // Whole micrometres, with the edges of the listed sides (3 face + side) sharp. Lent at the final F and V: positions 3V, out 3F, words 16F+8V, work 6V.
 pub fn loop_subdivide_whole(
     levels: u32,
@@ -101,15 +133,12 @@ pub fn loop_subdivide_whole(
     match o {
         Outcome::Refused(_) => o,
         Outcome::Success(c) => {
-            let nf = c.faces as usize;
-            let nv = c.vertices as usize;
-            act(
+            act_whole(
+                c,
                 levels,
                 indices,
                 coords,
                 sharp,
-                nf,
-                nv,
                 positions,
                 out,
                 words,

@@ -1,8 +1,10 @@
-// For C (plates.h): the public calls over numbers and slices, with numbers for the answer: document 01's five, the writer's three, and one for a batch. Each promises all that the call below it does.
+// For C (plates.h): the public calls over numbers and slices, with numbers for the answer: document 01's five, the writer's three, one for a batch, and four for outlines. Each promises all that the call below it does.
 ghost use mathlib.Core.Path.{_≡_};
 ghost use Rattle.rules.specs.Calls.{given, lent, buffers, SharpCall, SingleCall, SheetCall, Told};
 ghost use Rattle.writer.specs.Writing.{writtenAnswer, WriteTold};
 ghost use Rattle.alphabet.specs.Sheets.{SheetsCall};
+ghost use Rattle.outlines.specs.Loops.{tracedAnswer, OutlineTold};
+use outlines::Traced;
 use writer::Written;
 
 #[no_mangle]
@@ -125,4 +127,42 @@ pub extern "C" fn plates_subdivide_sheets(
     ensures { λ r. ⌜ SheetsCall (given bytes) (given lengths) (buffers positions out words work) (lent answers) r ⌝ }
 {
     alphabet::subdivide_sheets(bytes, lengths, positions, out, words, work, answers)
+}
+
+fn tell_loops(t: Traced, told: &mut [u32; 4])
+    ensures { λ r. ⌜ now (told .exit) ≡ tracedAnswer t ⌝ }
+{
+    match t {
+        Traced::Success(o) => {
+            let n = o.loops;
+            let v = o.listed;
+            *told = [0, 0, n, v];
+        }
+        Traced::Refused(r) => {
+            let n = r.number;
+            let p = r.place;
+            *told = [n, p, 0, 0];
+        }
+    }
+}
+
+// The whole call, and the rim of its last level as loops: refusal number or 0, place, loops, vertices listed.
+#[no_mangle]
+pub extern "C" fn plates_rim_loops(
+    levels: u32,
+    indices: &[u32],
+    coords: &[i32],
+    positions: &mut [i32],
+    out: &mut [u32],
+    words: &mut [u32],
+    work: &mut [i32],
+    list: &mut [u32],
+    told: &mut [u32; 4],
+)
+    ensures { λ r. ⌜ OutlineTold levels (given indices) (given coords) (buffers positions out words work) (lent list) (now (told .exit)) ⌝ }
+{
+    tell_loops(
+        outlines::rim_loops(levels, indices, coords, positions, out, words, work, list),
+        told,
+    );
 }

@@ -2,3 +2,4 @@ pub mod Promises
 pub mod Together
 pub mod Marks
 pub mod Eleven
+pub mod OutlinePromises

@@ -46,7 +46,7 @@ stands front old n i d e h k = let z : 0 + i ≡ i = omega arith in rw z at (get
 
 module _ (𝓝 : Numbers) (m : Final (𝓝 .N)) where
   -- the two are asked the same of the same buffers
-  agree : (o p : Buffers (𝓝 .N) → Outcome) (b d : Lent (Buffers (𝓝 .N))) (r q : Outcome) → o (b .old) ≡ p (d .old) → b .old ≡ d .old → Call 𝓝 o m b r → Call 𝓝 p m d q → r ≡ q × b .new ≡ d .new
+  pub agree : (o p : Buffers (𝓝 .N) → Outcome) (b d : Lent (Buffers (𝓝 .N))) (r q : Outcome) → o (b .old) ≡ p (d .old) → b .old ≡ d .old → Call 𝓝 o m b r → Call 𝓝 p m d q → r ≡ q × b .new ≡ d .new
   agree o p b d r q asked lent c k =
       let e : r ≡ q = c .answer ∙ asked ∙ sym (k .answer) in (
         e,

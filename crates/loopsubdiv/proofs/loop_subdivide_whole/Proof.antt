@@ -1,15 +1,5 @@
 use borrow.Author.Needs.{needs}
-use denote.Ref.{now}
-use native.Mathlib.Omega.{arith}
-use Prim.Native.Nat.{ℕ, _+_, _*_}
-use mathlib.Core.Path.{_≡_, sym, ap, _∙_}
-use lib.ListN.{length}
-use lib.IntN.{pos}
-use Rattle.lists.specs.Lists.{cleared}
-use Rattle.rules.specs.Answers.{wholeRooms}
-use Rattle.room.specs.Held.{halfOf}
-use Rattle.loopsubdiv.proofs.Outcomes.{whole-room}
-use Rattle.loopsubdiv.proofs.SharpOutcomes.{sharp-done}
+use mathlib.Core.Path.{sym, _∙_}
 use Rattle.loopsubdiv.proofs.loop_subdivide_whole.Statement.{statement}
 use Rattle.loopsubdiv.proofs.loop_subdivide_whole.Tie as tie
 
@@ -22,19 +12,8 @@ enum-told c = search needs
 enum-known-o : tie.Need-enum-known-o
 enum-known-o c = search needs
 
-cast-nf : tie.Need-cast-nf
-cast-nf c = search needs
-
-cast-nv : tie.Need-cast-nv
-cast-nv c = search needs
-
-act-requires : tie.Need-act-requires
-act-requires c κs =
-    let s = c .before .before .before .before .before .before .before .before .before .before .before .before .before .before in
-    let x = c .before .before .before .before .before .before .before .o .given .0 .0 in
-    let d = sharp-done (wholeRooms (length (now (s .args .positions))) (length (now (s .args .out))) (length (now (s .args .words))) (length (now (s .args .work)))) (s .args .levels) (now (s .args .sharp)) (now (s .args .indices)) (now (s .args .coords)) x (sym (c .before .before .before .before .before .before .before .before .before .judge-whole .ensures) ∙ c .before .before .before .before .before .before .before .o .given .1) in
-    let r = whole-room (length (now (s .args .positions))) (length (now (s .args .out))) (length (now (s .args .words))) (length (now (s .args .work))) x (d .room) in
-    ((d .planned, d .listed), (omega (arith, r .words), (omega (arith, r .coords), (r .positions, r .indices))))
+act-whole-requires : tie.Need-act-whole-requires
+act-whole-requires c κs = sym (c .before .before .before .before .before .before .before .judge-whole .ensures) ∙ c .before .before .before .before .before .o .given .1
 
 returns : tie.Need-returns
 returns c =
@@ -54,19 +33,7 @@ same-length-4 : tie.Need-same-length-4
 same-length-4 c = search needs
 
 returns-2 : tie.Need-returns-2
-returns-2 c =
-    let s = c .before .before .before .before .before .before .before .before .before .before .before .before .before .before .before .before .before .before .before .before .before in
-    let k = c .before .before .before .before .before .before .before .before .before .before .before .before .before .before .o .given .0 .0 in
-    let r = c .before .before .before .before .before .before .act .ensures in
-    let e : 2 * halfOf (k .faces) (k .vertices) ≡ 16 * k .faces + 8 * k .vertices = omega arith in
-    let f : 2 * (3 * k .vertices) ≡ 6 * k .vertices = omega arith in
-    record {
-      answer = sym (c .before .before .before .before .before .before .before .before .before .before .before .before .before .before .o .given .1) ∙ c .before .before .before .before .before .before .before .before .before .before .before .before .before .before .before .before .judge-whole .ensures;
-      positions = r .0;
-      indices = r .1 .0;
-      words = r .1 .1 .0 ∙ ap (λ (n : ℕ). cleared 0 n (now (s .args .words))) e;
-      work = r .1 .1 .1 ∙ ap (λ (n : ℕ). cleared (pos 0) n (now (s .args .work))) f;
-    }
+returns-2 c = c .before .before .before .before .before .before .act-whole .ensures
 
 pub loop-subdivide-whole-spec : {M : Type 1} → statement M
 loop-subdivide-whole-spec =
@@ -75,9 +42,7 @@ loop-subdivide-whole-spec =
     judge-whole-requires
     enum-told
     enum-known-o
-    cast-nf
-    cast-nv
-    act-requires
+    act-whole-requires
     returns
     same-length
     same-length-2
