@@ -3,3 +3,4 @@ pub mod Together
 pub mod Marks
 pub mod Eleven
 pub mod OutlinePromises
+pub mod Turned

@@ -8,6 +8,7 @@ use mathlib.Core.Option.{none, some}
 use lib.IntN.{ℤ, pos, natAbs, _-ℤ_}
 use lib.ListN.{length, getD, take}
 use Rattle.lists.specs.Lists.{find}
+use Rattle.lists.proofs.Stores.{part-of}
 use Rattle.whole.specs.Fraction.{Within}
 use Rattle.rules.specs.Mesh.{Mesh, links, cage}
 use Rattle.rules.specs.Position.{whole, exact}
@@ -52,13 +53,24 @@ module _ (l : ℕ) (sharp fs : List ℕ) (xs : List ℤ) (b : Lent (Buffers ℤ)
   pub sharp-faces : take (3 * c .faces) (b .new .indices) ≡ last whole l fs xs .mesh .faces
   sharp-faces = whole-faces l fs xs smooth c marks-move-points-alone
 
+  positions-long : length (sharpPositions whole (sharpLast whole l sharp fs xs)) ≡ 3 * c .vertices
+  positions-long =
+      length-sharp-positions whole (sharpLast whole l sharp fs xs)
+      ∙ ap (λ (m : Mesh). 3 * m .verts) (sharp-mesh whole l sharp fs xs)
+      ∙ ap (λ (d : Counts). 3 * d .vertices) (accepted-list .counts)
+
+  room : 3 * c .vertices ≤ length (b .old .positions)
+  room = whole-rooms l fs xs smooth c marks-move-points-alone .positions
+
+  pub sharp-positions : take (3 * c .vertices) (b .new .positions) ≡ sharpPositions whole (sharpLast whole l sharp fs xs)
+  sharp-positions =
+      ap (λ (x : List ℤ). take (3 * c .vertices) x) (call .positions)
+      ∙ part-of (sharpPositions whole (sharpLast whole l sharp fs xs)) (b .old .positions) 0 (3 * c .vertices) positions-long (omega (arith, room))
+
   pub sharp-position : (v k : ℕ) → v < c .vertices → k < 3 → getD (b .new .positions) (3 * v + k) (pos 0) ≡ coord whole (sharpPositions whole (sharpLast whole l sharp fs xs)) k v
   sharp-position v k h j =
-      let a = sharpLast whole l sharp fs xs in
-      let long : length (sharpPositions whole a) ≡ 3 * c .vertices =
-      length-sharp-positions whole a ∙ ap (λ (m : Mesh). 3 * m .verts) (sharp-mesh whole l sharp fs xs) ∙ ap (λ (d : Counts). 3 * d .vertices) (accepted-list .counts) in
       ap (λ (x : List ℤ). getD x (3 * v + k) (pos 0)) (call .positions)
-      ∙ stands (sharpPositions whole a) (b .old .positions) (3 * c .vertices) (3 * v + k) (pos 0) long (whole-rooms l fs xs smooth c marks-move-points-alone .positions) (omega arith)
+      ∙ stands (sharpPositions whole (sharpLast whole l sharp fs xs)) (b .old .positions) (3 * c .vertices) (3 * v + k) (pos 0) positions-long room (omega arith)
 
   -- demand 3, "with these rules in the exact mesh"
   pub sharp-demand-3-of-the-call : (v k : ℕ) → v < c .vertices → k < 3 → Within (l + 1) (getD (b .new .positions) (3 * v + k) (pos 0)) (coord exact (sharpExact l sharp fs xs) k v)

@@ -26,3 +26,4 @@ pub mod Sharp
 pub mod Both
 pub mod Marked
 pub mod SharpSettled
+pub mod Axes

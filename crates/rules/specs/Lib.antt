@@ -5,8 +5,10 @@ pub mod Tangents
 pub mod Refusals
 pub mod Answers
 pub mod Sharp
+pub mod Axes
 pub mod Sheets
 pub mod Calls
 pub mod Cases
 pub mod SharpCases
+pub mod AxesCases
 pub mod Orders
