@@ -340,6 +340,11 @@ static void nulls(void) {
     expect("NULL for all", "writer", told[0] == PLATES_NO_ROOM_FOR_SHEET && !told[1] && !told[2]);
     plates_rim_loops(7, NULL, 0, NULL, 0, NULL, 0, NULL, 0, NULL, 0, NULL, 0, NULL, 0, told);
     expect("NULL for all", "loops", !told[0] && !told[1] && !told[2] && !told[3]);
+    plates_write_obj(NULL, 0, NULL, 0, NULL, 0, told);
+    expect("NULL for all", "OBJ text", told[0] == PLATES_DONE && !told[1] && !told[2]);
+    plates_read_obj(NULL, 0, NULL, 0, NULL, 0, told);
+    expect("NULL for all", "OBJ lists", told[0] == PLATES_DONE && !told[1] && !told[2] && !told[3]);
+    expect("room that always does", "text", PLATES_ROOM_TEXT == 38 * PLATES_MOST + 20 * PLATES_MOST);
     expect("NULL for all", "sheets", plates_subdivide_sheets(NULL, 0, NULL, 0, NULL, 0, NULL, 0, NULL, 0, NULL, 0, NULL, 0) == PLATES_DONE);
     expect("NULL for all but a byte", "sheets", plates_subdivide_sheets((const uint8_t *)told, 1, NULL, 0, NULL, 0, NULL, 0, NULL, 0, NULL, 0, NULL, 0) == PLATES_BAD_BATCH);
     plates_loop_subdivide_whole(8, NULL, 0, NULL, 0, NULL, 0, NULL, 0, NULL, 0, NULL, 0, NULL, 0, told);

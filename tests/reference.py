@@ -591,6 +591,96 @@ def outline(sheet):
     return "".join(line + "\n" for line in lines)
 
 
+# ---- OBJ text
+
+MOST_LINES, REACH = 32768, 10**9
+
+
+def obj_text(coords, corners):
+    """The text of lists, or refusal 25."""
+    vertices = len(coords) // 3
+    if len(coords) % 3 or len(corners) % 3 or max(len(coords), len(corners)) > 3 * MOST_LINES or any(abs(x) > REACH for x in coords) or any(c >= vertices for c in corners):
+        raise Refused(25)
+    lines = ["v {} {} {}\n".format(*p) for p in triples(coords)] + ["f {} {} {}\n".format(*(c + 1 for c in f)) for f in triples(corners)]
+    return "".join(lines).encode()
+
+
+def write_obj(coords, corners, room):
+    text = obj_text(coords, corners)
+    if len(text) > room:
+        raise Refused(22)
+    return text
+
+
+class ObjText:
+    """A text read from its front. Refusal 23 is raised at the first byte that no text of the form has there, or at the end where it is not whole."""
+
+    def __init__(self, text):
+        self.text, self.at = text, 0
+
+    def next(self, allowed):
+        if self.at == len(self.text) or self.text[self.at] not in allowed:
+            raise Refused(23, self.at)
+        self.at += 1
+        return self.text[self.at - 1]
+
+    def number(self, least, most, end):
+        """Digits of a number of its range without a zero in front, and the byte that ends it. What a digit more would make is known, so each is held to the range."""
+        n = self.next([48 + d for d in range(10) if least <= d <= most]) - 48
+        while True:
+            c = self.next([end] + [48 + d for d in range(10) if n and 10 * n + d <= most])
+            if c == end:
+                return n
+            n = 10 * n + c - 48
+
+    def coordinate(self, end):
+        below = self.text[self.at:self.at + 1] == b"-"
+        self.at += below
+        n = self.number(1 if below else 0, REACH, end)
+        return -n if below else n
+
+    def lists(self):
+        coords, corners = [], []
+        while self.at < len(self.text):
+            letters = [118] * (not corners and len(coords) < 3 * MOST_LINES) + [102] * (bool(coords) and len(corners) < 3 * MOST_LINES)
+            if self.next(letters) == 118:
+                self.next(b" ")
+                coords += [self.coordinate(end) for end in b"  \n"]
+            else:
+                self.next(b" ")
+                corners += [self.number(1, len(coords) // 3, end) - 1 for end in b"  \n"]
+        return coords, corners
+
+
+def read_obj(text, room_for_coords, room_for_corners):
+    coords, corners = ObjText(text).lists()
+    if len(coords) > room_for_coords or len(corners) > room_for_corners:
+        raise Refused(24)
+    return coords, corners
+
+
+def plateobj(sheet):
+    """What `plateobj` prints."""
+    try:
+        if len(sheet) > 98324:
+            raise Refused(16)
+        answer = loop_subdivide_whole(*read_sheet(sheet), needed(32768, 32768, WHOLE))
+    except Refused as refusal:
+        return f"{refusal}\n".encode()
+    return obj_text(answer.positions, answer.indices)
+
+
+def objsheet(levels, text):
+    """What `objsheet` writes to standard output and to standard error."""
+    try:
+        if len(text) > 1900544:
+            raise Refused(16)
+        coords, corners = read_obj(text, 98304, 98304)
+        return write_checked(levels, corners, coords, 98324), b""
+    except Refused as refusal:
+        return b"", f"{refusal}\n".encode()
+
+
 if __name__ == "__main__":
     printed = outline if sys.argv[1:] == ["outline"] else platecut
     sys.stdout.write(printed(sys.stdin.buffer.read(32769)))

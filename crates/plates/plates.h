@@ -12,7 +12,7 @@
    (docs/HANDBOOK.md), and the rest is 0.
 
    Any number of threads may call at once, each with buffers of its own; a cage may be shared. A call on lists takes less than PLATES_STACK bytes of its
-   thread's stack, a call on sheets and the one for rim loops less than PLATES_STACK_SHEET. */
+   thread's stack, a call on sheets and the one for rim loops less than PLATES_STACK_SHEET; the calls on OBJ text take little. */
 #ifndef PLATES_H
 #define PLATES_H
 
@@ -24,7 +24,7 @@ extern "C" {
 #endif
 
 /* Counts up when something in this file changes, or what a call answers. */
-#define PLATES_VERSION 8
+#define PLATES_VERSION 9
 
 /* The stack that a call may take, in bytes: give a thread as much, and what its own functions take besides. Where a system gives a thread 128 KB, the calls on lists run in it;
    a call on sheets holds the sheet's lists too, and the one for rim loops tables of the cage. */
@@ -41,6 +41,7 @@ extern "C" {
 #define PLATES_ROOM_WORDS (24 * PLATES_MOST)    /* 786,432, as 16F+8V */
 #define PLATES_ROOM_WORK (6 * PLATES_MOST)      /* 196,608 */
 #define PLATES_ROOM_LIST (PLATES_MOST + PLATES_MOST_IN_CAGE / 3) /* 34,133: every vertex on the rim, and as many loops as a cage can have, of three sides each */
+#define PLATES_ROOM_TEXT (58 * PLATES_MOST)     /* 1,900,544 bytes of OBJ text: 38 of a `v` line, 20 of an `f` line */
 
 /* What told[0] says. docs/HANDBOOK.md has a section on each, with what the place counts and what to do. (16 is the programs' alone: the input is too long. 11 is not used.) */
 enum plates_refusal {
@@ -62,7 +63,11 @@ enum plates_refusal {
     PLATES_NO_ROOM_FOR_SHEET = 17,
     PLATES_SIDE_CANNOT_BE_SHARP = 18,
     PLATES_BAD_BATCH = 19, /* the number that plates_subdivide_sheets returns */
-    PLATES_NO_ROOM_FOR_LOOPS = 20
+    PLATES_NO_ROOM_FOR_LOOPS = 20,
+    PLATES_NO_ROOM_FOR_TEXT = 22,
+    PLATES_NOT_OF_THE_FORM = 23,
+    PLATES_NO_ROOM_FOR_LISTS = 24,
+    PLATES_NO_TEXT = 25
 };
 
 /* Whole micrometres, -1,000,000,000 to 1,000,000,000. `sharp` lists sides whose edges stay sharp (docs/RULES.md): side 3 f + k of face f runs from its corner k to the next.
@@ -131,6 +136,23 @@ void plates_rim_loops(uint32_t levels,
                       int32_t *work, size_t work_length,
                       uint32_t *list, size_t list_length,
                       uint32_t told[4]);
+
+/* A mesh as OBJ text, at the front of `text`: a line `v x y z` for each three coordinates, in whole micrometres, then a line `f a b c` for each three corners. Corners count from 0 in the
+   list and from 1 in the text. told[0] is 0 and told[2] the text's length; or told[0] is 25, where no text of this form gives these lists (a list that is no multiple of 3, over
+   PLATES_MOST lines of a kind, a coordinate out of range, a corner that names no vertex), or 22 where `text` is too short, told[1] and told[2] are 0, and no byte is written. Bytes past the
+   length are unchanged. Faces are not checked further. `text` and told must not overlap each other or the lists. */
+void plates_write_obj(const int32_t *coords, size_t coords_length,
+                      const uint32_t *corners, size_t corners_length,
+                      uint8_t *text, size_t text_length,
+                      uint32_t told[3]);
+
+/* OBJ text as a mesh, if it is exactly of the form that plates_write_obj writes. told[0] is 0, told[2] the vertices and told[3] the faces; or told[0] is 23 and told[1] the first byte where
+   no such text can go on, or the length where it stops early, or told[0] is 24 where a list is too short, the rest of told is 0, and no list is written. Entries past three for each vertex and
+   face are unchanged. The lists and told must not overlap each other or the text. */
+void plates_read_obj(const uint8_t *text, size_t text_length,
+                     int32_t *coords, size_t coords_length,
+                     uint32_t *corners, size_t corners_length,
+                     uint32_t told[4]);
 
 #ifdef __cplusplus
 }

@@ -54,6 +54,18 @@ extern "C" {
         list: *mut u32, list_len: usize,
         told: *mut u32,
     );
+    fn plates_write_obj(
+        coords: *const i32, coords_len: usize,
+        corners: *const u32, corners_len: usize,
+        text: *mut u8, text_len: usize,
+        told: *mut u32,
+    );
+    fn plates_read_obj(
+        text: *const u8, text_len: usize,
+        coords: *mut i32, coords_len: usize,
+        corners: *mut u32, corners_len: usize,
+        told: *mut u32,
+    );
 }
 
 /// No level has more faces or vertices than this, so room for as many is room for every answer.
@@ -64,6 +76,9 @@ const MOST_BYTES: usize = 12 * 4_096 + 12 * 4_096 + 20;
 
 /// A loop has three sides at least, and begins at a vertex of the cage.
 const MOST_LOOPS: usize = 4_096 / 3;
+
+/// The longest OBJ text: 38 bytes to a `v` line, 20 to an `f` line.
+const MOST_TEXT: usize = 58 * MOST;
 
 fn threes<T: Copy>(list: &[T]) -> Vec<[T; 3]> {
     list.chunks_exact(3).map(|c| [c[0], c[1], c[2]]).collect()
@@ -195,6 +210,50 @@ pub fn outline(levels: u32, indices: &[u32], coords: &[i32]) -> Result<Vec<Vec<[
     }).collect())
 }
 
+/// The OBJ text of lists, corners counted from 0; or 25.
+pub fn write_obj(coords: &[i32], corners: &[u32]) -> Result<Vec<u8>, Refusal> {
+    let mut text = vec![0u8; MOST_TEXT];
+    let mut told = [0u32; 3];
+    // SAFETY: as above.
+    unsafe {
+        plates_write_obj(
+            coords.as_ptr(), coords.len(),
+            corners.as_ptr(), corners.len(),
+            text.as_mut_ptr(), text.len(),
+            told.as_mut_ptr(),
+        );
+    }
+    let [number, place, length] = told;
+    if number != 0 {
+        return Err(Refusal { number, place });
+    }
+    text.truncate(length as usize);
+    Ok(text)
+}
+
+/// Coordinates and corners of an OBJ text of exactly that form; or 23, whose place is the byte where it breaks.
+pub fn read_obj(text: &[u8]) -> Result<(Vec<i32>, Vec<u32>), Refusal> {
+    let mut coords = vec![0i32; 3 * MOST];
+    let mut corners = vec![0u32; 3 * MOST];
+    let mut told = [0u32; 4];
+    // SAFETY: as above.
+    unsafe {
+        plates_read_obj(
+            text.as_ptr(), text.len(),
+            coords.as_mut_ptr(), coords.len(),
+            corners.as_mut_ptr(), corners.len(),
+            told.as_mut_ptr(),
+        );
+    }
+    let [number, place, vertices, faces] = told;
+    if number != 0 {
+        return Err(Refusal { number, place });
+    }
+    coords.truncate(3 * vertices as usize);
+    corners.truncate(3 * faces as usize);
+    Ok((coords, corners))
+}
+
 fn main() {
     let triangle = [0, 0, 0, 8, 0, 0, 0, 8, 0];
     match loop_subdivide_whole(1, &[0, 1, 2], &triangle, &[]) {
@@ -237,6 +296,11 @@ fn main() {
                 Ok(mesh) => println!("mesh {} {} {}, the last vertex at {:?}", mesh.positions.len(), mesh.faces.len(), mesh.rim_sides, mesh.positions[5]),
                 Err(r) => println!("refused {} at {}", r.number, r.place),
             }),
+            Err(r) => println!("refused {} at {}", r.number, r.place),
+        }
+    }    for (corners, broken) in [([0, 1, 2], false), ([0, 1, 3], false), ([0, 1, 2], true)] {
+        match write_obj(&triangle, &corners).and_then(|text| read_obj(&text[..text.len() - broken as usize])) {
+            Ok((coords, corners)) => println!("OBJ text of {} coordinates and {} corners, read as it was: {}", coords.len(), corners.len(), coords == triangle && corners == [0, 1, 2]),
             Err(r) => println!("refused {} at {}", r.number, r.place),
         }
     }

@@ -77,7 +77,7 @@ fn spaced_coord(text: &mut [u8], at: usize, p: &[i32], i: usize) -> usize
     signed(text, next, p[i])
 }
 
-fn three_numbers(text: &mut [u8], at: usize, a: u32, b: u32, c: u32) -> usize
+pub fn three_numbers(text: &mut [u8], at: usize, a: u32, b: u32, c: u32) -> usize
     requires { ⌜ at + 64 ≤ length (now text) ⌝ }
     ensures { λ r. ⌜ Put (now (text .entry)) at (three (numeral a) (numeral b) (numeral c)) (now (text .exit)) r ⌝ }
     ensures { λ r. ⌜ r ≤ at + 64 ⌝ }

@@ -1,9 +1,12 @@
-// For C (plates.h): the public calls over numbers and slices, with numbers for the answer: document 01's five, the writer's three, one for a batch, and four for outlines. Each promises all that the call below it does.
+// For C (plates.h): the public calls over numbers and slices, with numbers for the answer: document 01's five, the writer's three, one for a batch, four for outlines, three and four for OBJ text. Each promises all that the call below it does.
 ghost use mathlib.Core.Path.{_≡_};
 ghost use Rattle.rules.specs.Calls.{given, lent, buffers, SharpCall, SingleCall, SheetCall, Told};
 ghost use Rattle.writer.specs.Writing.{writtenAnswer, WriteTold};
 ghost use Rattle.alphabet.specs.Sheets.{SheetsCall};
 ghost use Rattle.outlines.specs.Loops.{tracedAnswer, OutlineTold};
+ghost use Rattle.obj.specs.Calls.{textAnswer, TextTold, listsAnswer, ListsTold};
+use obj::Lists;
+use obj::Text;
 use outlines::Traced;
 use writer::Written;
 
@@ -165,4 +168,60 @@ pub extern "C" fn plates_rim_loops(
         outlines::rim_loops(levels, indices, coords, positions, out, words, work, list),
         told,
     );
+}
+
+fn tell_text(t: Text, told: &mut [u32; 3])
+    ensures { λ r. ⌜ now (told .exit) ≡ textAnswer t ⌝ }
+{
+    match t {
+        Text::Bytes(length) => {
+            *told = [0, 0, length];
+        }
+        Text::Refused(r) => {
+            let number = r.number;
+            let place = r.place;
+            *told = [number, place, 0];
+        }
+    }
+}
+
+// A mesh as OBJ text: refusal number or 0, place, length in bytes.
+#[no_mangle]
+pub extern "C" fn plates_write_obj(
+    coords: &[i32],
+    corners: &[u32],
+    text: &mut [u8],
+    told: &mut [u32; 3],
+)
+    ensures { λ r. ⌜ TextTold (given coords) (given corners) (lent text) (now (told .exit)) ⌝ }
+{
+    tell_text(obj::write_obj(coords, corners, text), told);
+}
+
+fn tell_lists(l: Lists, told: &mut [u32; 4])
+    ensures { λ r. ⌜ now (told .exit) ≡ listsAnswer l ⌝ }
+{
+    match l {
+        Lists::Are { vertices, faces } => {
+            *told = [0, 0, vertices, faces];
+        }
+        Lists::Refused(r) => {
+            let number = r.number;
+            let place = r.place;
+            *told = [number, place, 0, 0];
+        }
+    }
+}
+
+// OBJ text as a mesh: refusal number or 0, place, vertices, faces.
+#[no_mangle]
+pub extern "C" fn plates_read_obj(
+    text: &[u8],
+    coords: &mut [i32],
+    corners: &mut [u32],
+    told: &mut [u32; 4],
+)
+    ensures { λ r. ⌜ ListsTold (given text) (lent coords) (lent corners) (now (told .exit)) ⌝ }
+{
+    tell_lists(obj::read_obj(text, coords, corners), told);
 }

@@ -1,0 +1,15 @@
+pub mod Decimals
+pub mod Back
+pub mod Spelled
+pub mod Sound
+pub mod Exact
+pub mod Round
+pub mod Place
+pub mod Turns
+pub mod Few
+pub mod Going
+pub mod Runs
+pub mod Answers
+pub mod Lines
+pub mod Lengths
+pub mod Promise
