@@ -9,7 +9,7 @@
 #include <sys/mman.h>
 #include "plates.h"
 
-enum { WHOLE, SINGLE, SHEET, SHEETS, LOOPS, CALLS, THREADS = 4, PAGE = 65536 };
+enum { WHOLE, SINGLE, SHEET, SHEETS, LOOPS, CALLS, CLAIM, THREADS = 4, PAGE = 65536 };
 static const char *const CALL[CALLS] = {"whole", "f32", "sheet", "sheets", "loops"};
 
 static int passed, failed;
@@ -33,7 +33,7 @@ typedef struct {
 } Cage;
 
 typedef struct {
-    uint32_t *positions, *normals, *out, *words, *work, *list, told[5];
+    uint32_t *positions, *normals, *out, *words, *work, *list, told[5], six[6];
     size_t lent[6];
 } Lent;
 
@@ -45,6 +45,7 @@ typedef struct {
     uint8_t sheet[24 * PLATES_MOST_IN_CAGE + 24 + 20];
     size_t bytes;
     Lent *lent;
+    const Lent *claim; /* a plate, for a claim alone */
 } Task;
 
 static uint32_t *some(size_t n) {
@@ -95,6 +96,9 @@ static void *run(void *given) {
     else if (t->kind == LOOPS)
         plates_rim_loops(c->levels, c->indices, c->corners, c->coords, c->numbers, (int32_t *)l->positions, l->lent[0], l->out, l->lent[2], l->words, l->lent[3],
                          (int32_t *)l->work, l->lent[4], l->list, l->lent[5], l->told);
+    else if (t->kind == CLAIM)
+        plates_accept(1, 1, c->indices, c->corners, c->coords, c->numbers, t->claim->out, 3 * (size_t)t->claim->told[3], (int32_t *)t->claim->positions,
+                      3 * (size_t)t->claim->told[2], (int32_t *)l->positions, l->lent[0], l->out, l->lent[2], l->words, l->lent[3], (int32_t *)l->work, l->lent[4], l->six);
     else {
         uint32_t length = (uint32_t)t->bytes;
         uint32_t number = plates_subdivide_sheets(t->sheet, t->bytes, &length, 1, (int32_t *)l->positions, l->lent[0], l->out, l->lent[2], l->words, l->lent[3],
@@ -281,6 +285,23 @@ static void small_threads(void) {
         }
 }
 
+/* our own plate at level 1, as a claim at tolerance 1 */
+static void small_claims(void) {
+    Lent *lent = ample(), *ours = ample();
+    for (size_t i = 0; i < made; i++) {
+        const Cage *c = cages[i];
+        if (c->told[0] != PLATES_DONE)
+            continue;
+        plates_loop_subdivide_whole(1, c->indices, c->corners, c->coords, c->numbers, NULL, 0, (int32_t *)ours->positions, ours->lent[0], ours->out, ours->lent[2], ours->words,
+                                    ours->lent[3], (int32_t *)ours->work, ours->lent[4], ours->told);
+        Task *t = task(CLAIM, c, lent);
+        t->claim = ours;
+        end(begin(t, PLATES_STACK_SHEET));
+        expect(c->name, "claim", lent->six[0] == PLATES_DONE && lent->six[2] == 1 && lent->six[3] == PLATES_NOTHING_WRONG);
+        free(t);
+    }
+}
+
 static void many_threads(void) {
     Lent *lent[THREADS], *alone = ample();
     for (int k = 0; k < THREADS; k++)
@@ -390,6 +411,7 @@ static void normals(void) {
 int main(void) {
     make_cages();
     small_threads();
+    small_claims();
     many_threads();
     rooms();
     nulls();

@@ -1,17 +1,18 @@
 #!/usr/bin/env python3
-"""An independent reference of both engines, the checks, the sheets, their writer, batches of sheets, rim loops, `platecut`, `makesheet`, `fontcut` and `outline`, from docs/RULES.md alone.
+"""An independent reference of both engines, the checks, the sheets, their writer, batches of sheets, rim loops, claims, OBJ text, `platecut`, `makesheet`, `fontcut`, `outline`, `claimcheck`, `plateobj` and `objsheet`, from docs/RULES.md alone.
 
 It shares no code with the Rattle crates or the oracle, searches where they keep links, and works in Python's own whole numbers and
 fractions. `python3 tests/reference.py < sheet` prints what `platecut` prints, and with the word outline what `outline` does.
 
 A cage is levels, a flat list of corner numbers and a flat list of coordinates: whole numbers (kind WHOLE) or f32 bits (kind F32). A sharp edge is the set of its two ends.
 """
+import re
 import struct
 import sys
 from collections import namedtuple
 from fractions import Fraction
 from functools import lru_cache
-from math import factorial, lcm
+from math import ceil, factorial, lcm
 
 WHOLE, F32 = "whole", "f32"
 Counts = namedtuple("Counts", "vertices faces rim_sides")
@@ -314,6 +315,42 @@ def exact_limit(levels, indices, coords, sharp=()):
     return [Fraction(c) for p in points for c in p]
 
 
+# ---- plates made elsewhere
+
+YES, COUNTS = (0, 0, 1, 0, 0, 0), (0, 0, 0, 1, 0, 0)
+
+
+def turnings(face):
+    a, b, c = face
+    return (a, b, c), (b, c, a), (c, a, b)
+
+
+def need(claimed, e):
+    """The least whole tolerance at which a coordinate passes."""
+    return ceil(abs(claimed - e))
+
+
+def accept(levels, tolerance, indices, coords, theirs, claimed, room=None):
+    """The six numbers of the verdict on a claim: its faces and coordinates, held to the exact limit."""
+    try:
+        if levels > 7:
+            raise Refused(1)
+        if tolerance > 1000 or levels > 1:
+            raise Refused(21)
+        mesh, points = limit(check(levels, indices, coords, WHOLE, room), coords, levels, exact)
+    except Refused as no:
+        return no.number, no.place, 0, 0, 0, 0
+    if (len(theirs), len(claimed)) != (3 * len(mesh.faces), 3 * len(points)):
+        return COUNTS
+    for f, (ours, face) in enumerate(zip(mesh.faces, triples(theirs))):
+        if face not in turnings(ours):
+            return 0, 0, 0, 2, f, 0
+    for i, (y, e) in enumerate(zip(claimed, (c for p in points for c in p))):
+        if need(y, e) > tolerance:
+            return 0, 0, 0, 3, i, need(y, e)
+    return YES
+
+
 # ---- the f32 engine
 
 def f32(x):
@@ -502,6 +539,49 @@ def platecut(sheet):
     except Refused as refusal:
         return f"{refusal}\n"
     return listed(answer)
+
+
+# ---- a claim as a listing
+
+def read_listing(text):
+    """The claim whose listing the text is, to the byte, or None. Numbers are those that `claimcheck` reads."""
+    found = re.fullmatch(rb"mesh (\d+) (\d+) (\d+)\n((?:v -?\d+ -?\d+ -?\d+\n)*)((?:f \d+ \d+ \d+\n)*)", text)
+    if not found:
+        return None
+    counts = Counts(*(int(n) for n in found.groups()[:3]))
+    positions, indices = ([int(n) for n in re.findall(rb"-?\d+", part)] for part in found.groups()[3:])
+    claim = Answer(counts, indices, positions, None)
+    if max(counts[:2]) > 512 or (len(positions), len(indices)) != (3 * counts.vertices, 3 * counts.faces):
+        return None
+    if max(map(abs, positions), default=0) >= 2**31 or max([counts.rim_sides, *indices]) // 10 > 400_000_000:
+        return None
+    return claim if listed(claim).encode() == text else None
+
+
+def claimcheck(given):
+    """What `claimcheck` prints."""
+    try:
+        if len(given) < 8:
+            raise Refused(15)
+        tolerance, length = struct.unpack_from("<2I", given)
+        if length > 32768:
+            raise Refused(16)
+        if len(given) < 8 + length:
+            raise Refused(15)
+        cage = read_sheet(given[8:8 + length])
+    except Refused as refusal:
+        return f"{refusal}\n"
+    claim = read_listing(given[8 + length:])
+    room = needed(512, 512, WHOLE)
+    levels, indices, coords = cage
+    number, place, yes, wrong, where, least = accept(levels, tolerance, indices, coords, claim.indices if claim else [], claim.positions if claim else [], room)
+    if number:
+        return f"refused {number} at {place}\n"
+    if not claim:
+        return "unreadable\n"
+    if yes:
+        return "yes\n" if claim.counts == loop_subdivide_whole(*cage, room).counts else "no counts\n"
+    return ("", "no counts\n", f"no face {where}\n", f"no coordinate {where} needs {least}\n")[wrong]
 
 
 # ---- a whole alphabet

@@ -12,7 +12,7 @@
    (docs/HANDBOOK.md), and the rest is 0.
 
    Any number of threads may call at once, each with buffers of its own; a cage may be shared. A call on lists takes less than PLATES_STACK bytes of its
-   thread's stack, a call on sheets and the one for rim loops less than PLATES_STACK_SHEET; the calls on OBJ text take little. */
+   thread's stack, a call on sheets, the one for rim loops and that on a claim less than PLATES_STACK_SHEET; the calls on OBJ text take little. */
 #ifndef PLATES_H
 #define PLATES_H
 
@@ -24,10 +24,10 @@ extern "C" {
 #endif
 
 /* Counts up when something in this file changes, or what a call answers. */
-#define PLATES_VERSION 9
+#define PLATES_VERSION 10
 
 /* The stack that a call may take, in bytes: give a thread as much, and what its own functions take besides. Where a system gives a thread 128 KB, the calls on lists run in it;
-   a call on sheets holds the sheet's lists too, and the one for rim loops tables of the cage. */
+   a call on sheets holds the sheet's lists too, the one for rim loops tables of the cage, that on a claim the cage's words. */
 #define PLATES_STACK 114688       /* 112 KB */
 #define PLATES_STACK_SHEET 212992 /* 208 KB */
 
@@ -64,6 +64,7 @@ enum plates_refusal {
     PLATES_SIDE_CANNOT_BE_SHARP = 18,
     PLATES_BAD_BATCH = 19, /* the number that plates_subdivide_sheets returns */
     PLATES_NO_ROOM_FOR_LOOPS = 20,
+    PLATES_CLAIM_NOT_JUDGED = 21,
     PLATES_NO_ROOM_FOR_TEXT = 22,
     PLATES_NOT_OF_THE_FORM = 23,
     PLATES_NO_ROOM_FOR_LISTS = 24,
@@ -153,6 +154,33 @@ void plates_read_obj(const uint8_t *text, size_t text_length,
                      int32_t *coords, size_t coords_length,
                      uint32_t *corners, size_t corners_length,
                      uint32_t told[4]);
+
+/* What told[3] of plates_accept says is wrong. */
+enum plates_fault {
+    PLATES_NOTHING_WRONG = 0,
+    PLATES_COUNTS_DIFFER = 1,
+    PLATES_FACE_DIFFERS = 2,
+    PLATES_COORDINATE_TOO_FAR = 3
+};
+
+/* Does a result that was made elsewhere pass? `theirs` has its corners, three to a face, `claimed` its coordinates in whole micrometres, three to a vertex; any numbers will do.
+   It passes exactly when it has as many as the plate at `levels` (0 or 1) has, each of its faces is ours in the same position, begun at whichever corner, and each coordinate
+   is at most `tolerance` (0 to 1,000) from the exact limit value, which need not be whole. The lent buffers are left as the whole call leaves them, so the plate that it is held to
+   stands in positions and out, on a yes and on a no.
+
+   told[0] is 0, and told[2] is 1 for a yes. For a no told[2] is 0, told[3] says what is wrong first (enum plates_fault), told[4] is the face or the coordinate (3 vertex + axis), and
+   told[5] the least tolerance at which that coordinate passes. Or told[0] is a refusal's number, told[1] its place, and the rest is 0: those of the whole call, and
+   PLATES_CLAIM_NOT_JUDGED, right after 1, where the tolerance is over 1,000 or the level over 1. A refusal comes before any look at the claim. */
+void plates_accept(uint32_t levels, uint32_t tolerance,
+                   const uint32_t *indices, size_t indices_length,
+                   const int32_t *coords, size_t coords_length,
+                   const uint32_t *theirs, size_t theirs_length,
+                   const int32_t *claimed, size_t claimed_length,
+                   int32_t *positions, size_t positions_length,
+                   uint32_t *out, size_t out_length,
+                   uint32_t *words, size_t words_length,
+                   int32_t *work, size_t work_length,
+                   uint32_t told[6]);
 
 #ifdef __cplusplus
 }

@@ -27,6 +27,7 @@ static const char *name(uint32_t refusal) {
     case PLATES_SIDE_CANNOT_BE_SHARP: return "a listed side cannot be sharp";
     case PLATES_BAD_BATCH: return "the batch does not add up";
     case PLATES_NO_ROOM_FOR_LOOPS: return "no room for the loops";
+    case PLATES_CLAIM_NOT_JUDGED: return "a claim is not judged at that tolerance or level";
     case PLATES_NO_ROOM_FOR_TEXT: return "no room for the text";
     case PLATES_NOT_OF_THE_FORM: return "not of the form";
     case PLATES_NO_ROOM_FOR_LISTS: return "no room for the lists";

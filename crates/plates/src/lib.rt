@@ -1,13 +1,17 @@
-// For C (plates.h): the public calls over numbers and slices, with numbers for the answer: document 01's five, the writer's three, one for a batch, four for outlines, three and four for OBJ text. Each promises all that the call below it does.
+// For C (plates.h): the public calls over numbers and slices, with numbers for the answer: document 01's five, the writer's three, one for a batch, four for outlines, six for a claim, three and four for OBJ text. Each promises all that the call below it does.
 ghost use mathlib.Core.Path.{_≡_};
 ghost use Rattle.rules.specs.Calls.{given, lent, buffers, SharpCall, SingleCall, SheetCall, Told};
 ghost use Rattle.writer.specs.Writing.{writtenAnswer, WriteTold};
 ghost use Rattle.alphabet.specs.Sheets.{SheetsCall};
 ghost use Rattle.outlines.specs.Loops.{tracedAnswer, OutlineTold};
 ghost use Rattle.obj.specs.Calls.{textAnswer, TextTold, listsAnswer, ListsTold};
+ghost use Rattle.station.specs.Acceptance.{StationTold};
+ghost use Rattle.station.specs.Acceptance.{answer as verdictAnswer};
 use obj::Lists;
 use obj::Text;
 use outlines::Traced;
+use station::Fault;
+use station::Verdict;
 use writer::Written;
 
 #[no_mangle]
@@ -166,6 +170,74 @@ pub extern "C" fn plates_rim_loops(
 {
     tell_loops(
         outlines::rim_loops(levels, indices, coords, positions, out, words, work, list),
+        told,
+    );
+}
+
+fn tell_no(f: Fault, told: &mut [u32; 6])
+    ensures { λ r. ⌜ now (told .exit) ≡ verdictAnswer (Verdict.No f) ⌝ }
+{
+    match f {
+        Fault::Counts => {
+            *told = [0, 0, 0, 1, 0, 0];
+        }
+        Fault::Face(n) => {
+            *told = [0, 0, 0, 2, n, 0];
+        }
+        Fault::Far(i, k) => {
+            *told = [0, 0, 0, 3, i, k];
+        }
+    }
+}
+
+fn tell_verdict(v: Verdict, told: &mut [u32; 6])
+    ensures { λ r. ⌜ now (told .exit) ≡ verdictAnswer v ⌝ }
+{
+    match v {
+        Verdict::Yes => {
+            *told = [0, 0, 1, 0, 0, 0];
+        }
+        Verdict::No(f) => {
+            tell_no(f, told);
+        }
+        Verdict::Refused(r) => {
+            let n = r.number;
+            let p = r.place;
+            *told = [n, p, 0, 0, 0, 0];
+        }
+    }
+}
+
+// A plate made elsewhere: refusal number or 0, place, 1 for yes, what is wrong first, where, and the tolerance that it needs.
+#[no_mangle]
+pub extern "C" fn plates_accept(
+    levels: u32,
+    tolerance: u32,
+    indices: &[u32],
+    coords: &[i32],
+    theirs: &[u32],
+    claimed: &[i32],
+    positions: &mut [i32],
+    out: &mut [u32],
+    words: &mut [u32],
+    work: &mut [i32],
+    told: &mut [u32; 6],
+)
+    ensures { λ r. ⌜ StationTold tolerance levels (given indices) (given coords) (given theirs) (given claimed) (buffers positions out words work) (now (told .exit)) ⌝ }
+{
+    tell_verdict(
+        station::accept(
+            levels,
+            tolerance,
+            indices,
+            coords,
+            theirs,
+            claimed,
+            positions,
+            out,
+            words,
+            work,
+        ),
         told,
     );
 }

@@ -4,3 +4,4 @@ pub mod Marks
 pub mod Eleven
 pub mod OutlinePromises
 pub mod Turned
+pub mod Claims
