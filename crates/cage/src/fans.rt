@@ -16,6 +16,7 @@ use super::Check;
 use super::no;
 use super::sides::side_of;
 use faces::Turn;
+use turns::MOST_VALENCE;
 
 // How many corners each vertex has.
 pub fn count_corners(indices: &[u32], counts: &mut [u16])
@@ -71,8 +72,8 @@ fn wide(t: Turn) -> bool
     ensures { λ r. ⌜ r ≡ ltb mostValence (valenceOf t) ⌝ }
 {
     match t {
-        Turn::Inner(k) => k > 16,
-        Turn::Rim(k, _) => k > 15,
+        Turn::Inner(k) => k > MOST_VALENCE,
+        Turn::Rim(k, _) => k >= MOST_VALENCE,
         Turn::Endless => false,
     }
 }

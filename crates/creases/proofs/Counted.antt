@@ -12,6 +12,7 @@ use borrow.Author.Tests.{lt-ltb, le-ltb, eq-eqb, ne-eqb}
 use Rattle.lists.specs.Lists.{pick, part, keep}
 use Rattle.lists.proofs.Places.{getD-map, last-at}
 use Rattle.lists.proofs.Stores.{part-of}
+use Rattle.turns.specs.Turns.{mostValence}
 use Rattle.rules.specs.Mesh.{onward, backward, corner, links, Fan, inner, rim, endless, fan, ring, Mesh}
 use Rattle.rules.specs.Position.{Stage, Numbers}
 use Rattle.rules.specs.Levels.{coord, three}
@@ -90,9 +91,9 @@ module _ (v n : ℕ) (fs : List ℕ) (g : Good v n fs) (s : ℕ) (ms : List Bool
       (g .below (backward (getD ks k 0)) (back-below (getD ks k 0) n (all-kept (λ x. x < 3 * n) (λ x. sharp ms (backward x)) cs (λ i b. r .corners .below i b) k l)))
 
 -- ---- the ring of vertex u with its sharp edges, as `sharp_ring` leaves it in lent numbers o that were l, of a mesh that stands in words w
-module _ (w : List ℕ) (at n : ℕ) (m : Mesh) (h : Holds w at m) (p : Sound n m) (few : Small 16 m) (u : ℕ) (k : u < m .verts) (ms : List Bool)
+module _ (w : List ℕ) (at n : ℕ) (m : Mesh) (h : Holds w at m) (p : Sound n m) (few : Small mostValence m) (u : ℕ) (k : u < m .verts) (ms : List Bool)
     (x : SharpRing) (e : x ≡ sharpRingOf (part at (3 * n) w) ms (fan (linksIn w (at + 3 * n) (3 * n)) (getD w (at + 6 * n + u) 0)))
-    (l o : List ℕ) (long : 16 ≤ length l) (f : o ≡ sets l 0 (ring (part at (3 * n) w) (fan (linksIn w (at + 3 * n) (3 * n)) (getD w (at + 6 * n + u) 0)))) where
+    (l o : List ℕ) (long : mostValence ≤ length l) (f : o ≡ sets l 0 (ring (part at (3 * n) w) (fan (linksIn w (at + 3 * n) (3 * n)) (getD w (at + 6 * n + u) 0)))) where
   is : x ≡ sharpRingOf (m .faces) ms (fanAt m u)
   is =
       e ∙ ap₂ (λ (a : List ℕ) (b : Fan). sharpRingOf a ms b) (faces-held w at n m h (p .good)) (fan-held w at n m h (p .good) (getD w (at + 6 * n + u) 0))

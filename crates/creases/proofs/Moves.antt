@@ -12,6 +12,7 @@ use lib.Seq.{sets}
 use Rattle.lists.specs.Lists.{pick, count, keep, gather, part}
 use Rattle.lists.proofs.Places.{length-count, length-gather, length-keep, rank-le}
 use Rattle.lists.proofs.Stores.{sets-next, part-outside, piece-more, kept-room, kept-more, kept-same, kept-count}
+use Rattle.turns.specs.Turns.{mostValence}
 use Rattle.rules.specs.Mesh.{onward, links, firstMet, firsts, fan, ring, Mesh}
 use Rattle.rules.specs.Position.{Stage, Numbers}
 use Rattle.rules.specs.Levels.{three, edgeAt}
@@ -50,7 +51,7 @@ module _ (w : List ℕ) (at marks n v : ℕ) (r : Markable w at marks n v) where
     }
 
     module _ (x : SharpRing) (e : x ≡ sharpRingOf (part at (3 * n) w) ms (fan (linksIn w (at + 3 * n) (3 * n)) (getD w (at + 6 * n + u) 0)))
-        (l o : List ℕ) (long : 16 ≤ length l) (f : o ≡ sets l 0 (ring (part at (3 * n) w) (fan (linksIn w (at + 3 * n) (3 * n)) (getD w (at + 6 * n + u) 0)))) where
+        (l o : List ℕ) (long : mostValence ≤ length l) (f : o ≡ sets l 0 (ring (part at (3 * n) w) (fan (linksIn w (at + 3 * n) (3 * n)) (getD w (at + 6 * n + u) 0)))) where
       pub old-fits : x .n ≤ length o
       old-fits = sharp-fits w at n m (r .movable .holds) (r .movable .sound) (r .movable .few) u h ms x e l o long f
 

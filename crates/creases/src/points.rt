@@ -6,6 +6,7 @@ use faces::backward;
 use faces::onward;
 use levels::first_met;
 use marks::mark;
+use turns::MOST_VALENCE;
 use weights::Stage;
 use weights::micrometres::Whole3;
 use weights::micrometres::edge_inner;
@@ -43,7 +44,7 @@ fn old_point(
     ensures near { λ r. ⌜ Raised3 r ⌝ }
 {
     let s = words[at + 6 * nf + u] as usize;
-    let mut vs: [u32; 16] = [0; 16];
+    let mut vs: [u32; MOST_VALENCE] = [0; MOST_VALENCE];
     let ring = sharp_ring(words, at, at + 3 * nf, marks, nf, s, &mut vs);
     creased(
         &work[from..from + 3 * nv],

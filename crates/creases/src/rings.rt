@@ -13,6 +13,7 @@ ghost use Prim.Native.Nat.{_+_, _-_, _*_, _/_, _%_, _≤_, _<_};
 ghost use lib.ListN.{length, getD};
 ghost use lib.Seq.{sets};
 ghost use Rattle.lists.specs.Lists.{part, pick, bit, keep, tally};
+ghost use Rattle.turns.specs.Turns.{mostValence};
 ghost use Rattle.rules.specs.Mesh as mesh;
 ghost use Rattle.rules.specs.Sharp.{sharp};
 ghost use Rattle.faces.specs.Words.{linksIn};
@@ -144,7 +145,7 @@ fn sharp_back(
     from: usize,
     out: &mut [u32],
 ) -> Rest
-    requires { ⌜ Walkable (now words) links nf s × (corners + 3 * nf ≤ length (now words)) × Ends (mesh.prevCorner (linksIn (now words) links (3 * nf)) end) q s (16 - from) × (0 < q) × (16 ≤ length (now out)) × (marks + nf ≤ length (now words)) ⌝ }
+    requires { ⌜ Walkable (now words) links nf s × (corners + 3 * nf ≤ length (now words)) × Ends (mesh.prevCorner (linksIn (now words) links (3 * nf)) end) q s (mostValence - from) × (0 < q) × (mostValence ≤ length (now out)) × (marks + nf ≤ length (now words)) ⌝ }
     ensures count { λ r. ⌜ r .n ≡ from + length (backs (part corners (3 * nf) (now (words .entry))) (mesh.passed (mesh.walk (mesh.prevCorner (linksIn (now (words .entry)) links (3 * nf)) end) q (mesh.here s)))) ⌝ }
     ensures sharp { λ r. ⌜ r .sharp ≡ tally (comes (marksIn (now (words .entry)) marks nf)) (mesh.passed (mesh.walk (mesh.prevCorner (linksIn (now (words .entry)) links (3 * nf)) end) q (mesh.here s))) ⌝ }
     ensures ring { λ r. ⌜ now (out .exit) ≡ sets (now (out .entry)) from (backs (part corners (3 * nf) (now (words .entry))) (mesh.passed (mesh.walk (mesh.prevCorner (linksIn (now (words .entry)) links (3 * nf)) end) q (mesh.here s)))) ⌝ }
@@ -189,9 +190,9 @@ fn sharp_rest(
     out: &mut [u32],
 ) -> SharpRing
     requires words { ⌜ Walkable (now words) links nf s × (corners + 3 * nf ≤ length (now words)) ⌝ }
-    requires on { ⌜ (0 < n) × (n < 16) × (n ≤ nf) × (16 ≤ length (now out)) ⌝ }
-    requires back { ⌜ Ends (mesh.prevCorner (linksIn (now words) links (3 * nf)) end) (nf + 1 - n) s (16 - n) ⌝ }
-    requires marks { ⌜ (marks + nf ≤ length (now words)) × (k ≤ 16) ⌝ }
+    requires on { ⌜ (0 < n) × (n < mostValence) × (n ≤ nf) × (mostValence ≤ length (now out)) ⌝ }
+    requires back { ⌜ Ends (mesh.prevCorner (linksIn (now words) links (3 * nf)) end) (nf + 1 - n) s (mostValence - n) ⌝ }
+    requires marks { ⌜ (marks + nf ≤ length (now words)) × (k ≤ mostValence) ⌝ }
     ensures count { λ r. ⌜ r .n ≡ n + length (backs (part corners (3 * nf) (now (words .entry))) (mesh.passed (mesh.walk (mesh.prevCorner (linksIn (now (words .entry)) links (3 * nf)) end) (nf + 1 - n) (mesh.here s)))) ⌝ }
     ensures creases { λ r. ⌜ r .creases ≡ 2 + k + tally (comes (marksIn (now (words .entry)) marks nf)) (mesh.passed (mesh.walk (mesh.prevCorner (linksIn (now (words .entry)) links (3 * nf)) end) (nf + 1 - n) (mesh.here s))) ⌝ }
     ensures ends { λ r. ⌜ (r .a ≡ getD (now (out .exit)) 0 0) × (r .b ≡ getD (now (out .exit)) (r .n - 1) 0) ⌝ }
@@ -219,7 +220,7 @@ pub fn sharp_ring(
     s: usize,
     out: &mut [u32],
 ) -> SharpRing
-    requires { ⌜ Sharpable (now words) corners links marks nf s × (16 ≤ length (now out)) ⌝ }
+    requires { ⌜ Sharpable (now words) corners links marks nf s × (mostValence ≤ length (now out)) ⌝ }
     ensures ring { λ r. ⌜ r ≡ sharpRingOf (part corners (3 * nf) (now (words .entry))) (marksIn (now (words .entry)) marks nf) (mesh.fan (linksIn (now (words .entry)) links (3 * nf)) s) ⌝ }
     ensures out { λ r. ⌜ now (out .exit) ≡ sets (now (out .entry)) 0 (mesh.ring (part corners (3 * nf) (now (words .entry))) (mesh.fan (linksIn (now (words .entry)) links (3 * nf)) s)) ⌝ }
 {

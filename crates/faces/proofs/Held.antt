@@ -8,6 +8,7 @@ use mathlib.Core.Option.{Option, none, some}
 use lib.ListN.{length, getD, length-map}
 use Rattle.lists.specs.Lists.{part}
 use Rattle.lists.proofs.Stores.{getD-part}
+use Rattle.turns.specs.Turns.{mostValence}
 use Rattle.rules.specs.Mesh.{onward, corner, links, Fan, inner, rim, endless, fan, valence, ring, Mesh}
 use Rattle.rules.proofs.Refine.{Good}
 use Rattle.rules.proofs.Sides.{on-below, length-links}
@@ -102,7 +103,7 @@ module _ (w : List ℕ) (at n : ℕ) (m : Mesh) (h : Holds w at m) (g : Good (m 
       ap (λ (l : List (Option ℕ)). getD l t none) links-held
       ∙ link-link (m .verts) n (m .faces) g i t (omega (arith, length-links (m .faces), g .size)) a
 
-  pub ringable : (s : ℕ) → s < 3 * n → valence (fan (links (m .faces)) s) ≤ 16 → Ringable w at (at + 3 * n) n s
+  pub ringable : (s : ℕ) → s < 3 * n → valence (fan (links (m .faces)) s) ≤ mostValence → Ringable w at (at + 3 * n) n s
   ringable s k v = record { walkable = walkable s k; room = omega (arith, room-held); mated = mates; leads = leads-back; turns = λ e. fan-ends (m .verts) n (m .faces) g s k (sym (fan-held s) ∙ e); few = rw (fan-held s) v }
 
   pub ring-held : (s : ℕ) → ring (part at (3 * n) w) (fan (linksIn w (at + 3 * n) (3 * n)) s) ≡ ring (m .faces) (fan (links (m .faces)) s)
@@ -122,7 +123,7 @@ module _ (w : List ℕ) (at n : ℕ) (m : Mesh) (h : Holds w at m) (p : Sound n 
   pub start-walkable : Walkable w (at + 3 * n) n (getD w (at + 6 * n + v) 0)
   start-walkable = walkable w at n m h (p .good) (getD w (at + 6 * n + v) 0) start-below
 
-  pub start-ringable : Small 16 m → Ringable w at (at + 3 * n) n (getD w (at + 6 * n + v) 0)
+  pub start-ringable : Small mostValence m → Ringable w at (at + 3 * n) n (getD w (at + 6 * n + v) 0)
   unfolding Small
   start-ringable few = ringable w at n m h (p .good) (getD w (at + 6 * n + v) 0) start-below (rw start-is (few v k))
 

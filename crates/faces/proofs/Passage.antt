@@ -10,6 +10,7 @@ use lib.ListN.{length, getD, length-append}
 use lib.Seq.{sets, length-sets, ext-getD}
 use Rattle.lists.specs.Lists.{lastOf, part}
 use Rattle.lists.proofs.Stores.{getD-part, getD-within, getD-outside}
+use Rattle.turns.specs.Turns.{mostValence}
 use Rattle.rules.specs.Mesh as mesh
 use Rattle.rules.specs.Mesh.{onward, backward, corner, home, off, here, Stop, closed, ended, long, walk, passed, stopOf, nextCorner, prevCorner, rim, fan, valence, ring}
 use Rattle.rules.proofs.Sides.{on-below}
@@ -45,8 +46,8 @@ append-one (x ∷ xs) ys y = ap (λ (l : List ℕ). x ∷ l) (append-one xs ys y
 pub record Turned (w : List ℕ) (corners links n s k e : ℕ) : Type 0 where
   pub some : 0 < k
   pub few : k ≤ n
-  pub back : Ends (prevCorner (linksIn w links (3 * n)) e) (n + 1 - k) s (16 - k)
-  pub fits : k < 16
+  pub back : Ends (prevCorner (linksIn w links (3 * n)) e) (n + 1 - k) s (mostValence - k)
+  pub fits : k < mostValence
   pub ring :
       ring (part corners (3 * n) w) (fan (linksIn w links (3 * n)) s) ≡
       downFrom (inners (part corners (3 * n) w) (trail (nextCorner (linksIn w links (3 * n)) s) n (here s))) (k - 1) ++
@@ -99,7 +100,7 @@ module _ (w : List ℕ) (corners links n s : ℕ) (p : Ringable w corners links 
       ∙ ap (λ (z : ℕ). stopOf (walk (prevCorner ls (lastOf 0 on)) (n - length on) (prevCorner ls (lastOf 0 on) z))) begins
 
   -- `few` of the fan, counted
-  counted : suc (length on + length rest) ≤ 16
+  counted : suc (length on + length rest) ≤ mostValence
   counted =
       let a : valence (fan ls s) ≡ suc (length on + length rest) =
       ap valence (as-rim .is) ∙ ap (λ (l : List ℕ). suc (length l)) whole-fan
@@ -166,11 +167,11 @@ module _ (w : List ℕ) (corners links n s : ℕ) (p : Ringable w corners links 
       (t .count, rw (t .count, t .end) at r)
 
   -- what the walk on asks
-  pub on-ends : Ends steps n s 16
+  pub on-ends : Ends steps n s mostValence
   on-ends = go (stopOf (walk steps n (here s))) refl
     where
-      go : (st : Stop) → stopOf (walk steps n (here s)) ≡ st → Ends steps n s 16
-      go closed e = inner-ends (linksIn w links (3 * n)) n s 16 (inner-is (linksIn w links (3 * n)) n s (faces-in w links n s (p .walkable)) (length (trail steps n (here s))) (rw e)) (p .few)
+      go : (st : Stop) → stopOf (walk steps n (here s)) ≡ st → Ends steps n s mostValence
+      go closed e = inner-ends (linksIn w links (3 * n)) n s mostValence (inner-is (linksIn w links (3 * n)) n s (faces-in w links n s (p .walkable)) (length (trail steps n (here s))) (rw e)) (p .few)
       go ended e = record { stops = λ q. (let a = sym e ∙ q in let z : _≡_ {A = ℕ} 0 1 = cc in omega arith); few = let h = turned-here w corners links n s p e .fits in omega (arith, h) }
       go long e = absurd (p .turns (long-is (linksIn w links (3 * n)) n s (faces-in w links n s (p .walkable)) (rw e)))
 

@@ -7,6 +7,7 @@ use mathlib.Core.Bool.{Bool, true, false}
 use mathlib.Core.List.{List, [], _∷_, map}
 use lib.ListN.{length, getD}
 use Rattle.lists.specs.Lists.{lastOf}
+use Rattle.turns.specs.Turns.{mostValence}
 use Rattle.rules.specs.Mesh as mesh
 use Rattle.rules.specs.Mesh.{onward, backward, corner, Walk, walk, passed, stopOf, Stop, Fan, inner, rim, endless, fan, valence, ring}
 use Rattle.faces.specs.Words.{linkOf, linksIn}
@@ -36,7 +37,7 @@ pub record Ringable (w : List ℕ) (corners links n s : ℕ) : Type 0 where
   pub mated : Mated w corners links n
   pub leads : (i t : ℕ) → getD (linksIn w links (3 * n)) i none ≡ some t → getD (linksIn w links (3 * n)) t none ≡ some i
   pub turns : fan (linksIn w links (3 * n)) s ≢ endless
-  pub few : valence (fan (linksIn w links (3 * n)) s) ≤ 16
+  pub few : valence (fan (linksIn w links (3 * n)) s) ≤ mostValence
 
 -- what the walk of a ring asks: it ends, and within so many corners
 pub record Ends (next : ℕ → mesh.Step) (n s most : ℕ) : Type 0 where

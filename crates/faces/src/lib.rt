@@ -6,6 +6,7 @@ ghost use Prim.Native.Nat.{ℕ, _+_, _-_, _*_, _≤_, _<_};
 ghost use lib.ListN.{length, getD};
 ghost use lib.Seq.{sets};
 ghost use Rattle.lists.specs.Lists.{part};
+ghost use Rattle.turns.specs.Turns.{mostValence};
 ghost use Rattle.rules.specs.Mesh as mesh;
 ghost use Rattle.faces.specs.declared.Across.the-variants as across;
 ghost use Rattle.faces.specs.declared.Vert.the-variants as vert;
@@ -438,7 +439,7 @@ fn gather_back(
     from: usize,
     out: &mut [u32],
 ) -> usize
-    requires { ⌜ Walkable (now words) links nf s × (corners + 3 * nf ≤ length (now words)) × Ends (mesh.prevCorner (linksIn (now words) links (3 * nf)) end) (nf + 1 - from) s (16 - from) × (from ≤ nf) × (16 ≤ length (now out)) ⌝ }
+    requires { ⌜ Walkable (now words) links nf s × (corners + 3 * nf ≤ length (now words)) × Ends (mesh.prevCorner (linksIn (now words) links (3 * nf)) end) (nf + 1 - from) s (mostValence - from) × (from ≤ nf) × (mostValence ≤ length (now out)) ⌝ }
     ensures count { λ r. ⌜ r ≡ from + length (backs (part corners (3 * nf) (now (words .entry))) (mesh.passed (mesh.walk (mesh.prevCorner (linksIn (now (words .entry)) links (3 * nf)) end) (nf + 1 - from) (mesh.here s)))) ⌝ }
     ensures ring { λ r. ⌜ now (out .exit) ≡ sets (now (out .entry)) from (backs (part corners (3 * nf) (now (words .entry))) (mesh.passed (mesh.walk (mesh.prevCorner (linksIn (now (words .entry)) links (3 * nf)) end) (nf + 1 - from) (mesh.here s)))) ⌝ }
 {
@@ -474,8 +475,8 @@ fn rim_rest(
     out: &mut [u32],
 ) -> usize
     requires words { ⌜ Walkable (now words) links nf s × (corners + 3 * nf ≤ length (now words)) ⌝ }
-    requires on { ⌜ (0 < n) × (n < 16) × (n ≤ nf) × (16 ≤ length (now out)) ⌝ }
-    requires back { ⌜ Ends (mesh.prevCorner (linksIn (now words) links (3 * nf)) end) (nf + 1 - n) s (16 - n) ⌝ }
+    requires on { ⌜ (0 < n) × (n < mostValence) × (n ≤ nf) × (mostValence ≤ length (now out)) ⌝ }
+    requires back { ⌜ Ends (mesh.prevCorner (linksIn (now words) links (3 * nf)) end) (nf + 1 - n) s (mostValence - n) ⌝ }
     ensures count { λ r. ⌜ r ≡ n + length (backs (part corners (3 * nf) (now (words .entry))) (mesh.passed (mesh.walk (mesh.prevCorner (linksIn (now (words .entry)) links (3 * nf)) end) (nf + 1 - n) (mesh.here s)))) ⌝ }
     ensures ring { λ r. ⌜ now (out .exit) ≡ sets (now (out .entry)) 0 (downFrom (now (out .entry)) (n - 1) ++ backs (part corners (3 * nf) (now (words .entry))) (mesh.passed (mesh.walk (mesh.prevCorner (linksIn (now (words .entry)) links (3 * nf)) end) (nf + 1 - n) (mesh.here s)))) ⌝ }
 {
@@ -493,7 +494,7 @@ pub fn one_ring(
     s: usize,
     out: &mut [u32],
 ) -> Ring
-    requires { ⌜ Ringable (now words) corners links nf s × (16 ≤ length (now out)) ⌝ }
+    requires { ⌜ Ringable (now words) corners links nf s × (mostValence ≤ length (now out)) ⌝ }
     ensures ring { λ r. ⌜ r ≡ ringOf (part corners (3 * nf) (now (words .entry))) (mesh.fan (linksIn (now (words .entry)) links (3 * nf)) s) ⌝ }
     ensures out { λ r. ⌜ now (out .exit) ≡ sets (now (out .entry)) 0 (mesh.ring (part corners (3 * nf) (now (words .entry))) (mesh.fan (linksIn (now (words .entry)) links (3 * nf)) s)) ⌝ }
 {

@@ -13,6 +13,7 @@ use lib.Seq.{sets}
 use Rattle.lists.specs.Lists.{count, keep, gather, part}
 use Rattle.lists.proofs.Places.{length-count, length-gather, length-keep, rank-le}
 use Rattle.lists.proofs.Stores.{sets-next, part-outside, piece-more, kept-room, kept-more, kept-same, kept-count}
+use Rattle.turns.specs.Turns.{mostValence}
 use Rattle.rules.specs.Mesh.{onward, backward, corner, links, isFirst, firstMet, firsts, fan, ring, Mesh}
 use Rattle.rules.specs.Position.{Stage, Numbers}
 use Rattle.rules.specs.Levels.{three, moved, edgeAt, newPositions}
@@ -68,7 +69,7 @@ module _ (w : List ℕ) (at n v : ℕ) (r : Movable w at n v) where
 
     -- its ring, in numbers that were lent
     module _ (x : Ring) (e : x ≡ ringOf (part at (3 * n) w) (fan (linksIn w (at + 3 * n) (3 * n)) (getD w (at + 6 * n + u) 0)))
-        (l o : List ℕ) (long : 16 ≤ length l) (f : o ≡ sets l 0 (ring (part at (3 * n) w) (fan (linksIn w (at + 3 * n) (3 * n)) (getD w (at + 6 * n + u) 0)))) where
+        (l o : List ℕ) (long : mostValence ≤ length l) (f : o ≡ sets l 0 (ring (part at (3 * n) w) (fan (linksIn w (at + 3 * n) (3 * n)) (getD w (at + 6 * n + u) 0)))) where
       pub ring-fits : x .n ≤ length o
       ring-fits = lent-fits w at n m (r .holds) (r .sound) (r .few) u h x e l o long f
 

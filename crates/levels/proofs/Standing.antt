@@ -5,6 +5,7 @@ use mathlib.Core.Logic.{_⊎_}
 use mathlib.Core.List.{List}
 use lib.ListN.{length, drop}
 use Rattle.lists.specs.Lists.{part}
+use Rattle.turns.specs.Turns.{mostValence}
 use Rattle.rules.specs.Mesh.{Mesh, links, firsts, refined}
 use Rattle.rules.specs.Position.{Numbers}
 use Rattle.rules.specs.Levels.{newPositions}
@@ -42,7 +43,7 @@ module _ (w : List ℕ) (at n : ℕ) (m : Mesh) (h : Holds w at m) (p : Sound n 
     rest-after k a b = g .rest k a (rw edges-are b)
 
   -- and what the moves ask, and give
-  pub movable : Small 16 m → m .verts + 3 * n < 4294967296 → Movable w at n (m .verts)
+  pub movable : Small mostValence m → m .verts + 3 * n < 4294967296 → Movable w at n (m .verts)
   movable few small = record { holds = rw mesh-is h; sound = rw mesh-is p; few = rw mesh-is few; small = small }
 
   pub points-after : (𝓝 : Numbers) (xs : List (𝓝 .N)) → newPositions 𝓝 (meshIn w at n (m .verts)) (links (part at (3 * n) w)) xs ≡ newPositions 𝓝 m (links (m .faces)) xs

@@ -5,6 +5,7 @@ use mathlib.Core.List.{List}
 use mathlib.Core.Option.{none}
 use lib.ListN.{length, getD}
 use Rattle.lists.specs.Lists.{count, gather, part}
+use Rattle.turns.specs.Turns.{mostValence}
 use Rattle.rules.specs.Mesh.{links, firsts}
 use Rattle.rules.specs.Position.{refining, Numbers}
 use Rattle.rules.specs.Levels.{three, moved, edgeAt}
@@ -13,11 +14,11 @@ use Rattle.rules.proofs.Levels.{Small}
 use Rattle.faces.specs.Words.{Holds}
 use Rattle.levels.specs.Level.{meshIn}
 
--- what the moves ask of the words: a sound mesh of n faces and v vertices stands at `at`, and no valence is over 16. Every accepted cage meets it, at every level
+-- what the moves ask of the words: a sound mesh of n faces and v vertices stands at `at`, and no valence is over the largest. Every accepted cage meets it, at every level
 pub record Movable (w : List ℕ) (at n v : ℕ) : Type 0 where
   pub holds : Holds w at (meshIn w at n v)
   pub sound : Sound n (meshIn w at n v)
-  pub few : Small 16 (meshIn w at n v)
+  pub few : Small mostValence (meshIn w at n v)
   pub small : v + 3 * n < 4294967296
 
 -- and of the coordinates: those of v vertices stand at `from`, and apart from them there is room at `to` for those of e more

@@ -4,6 +4,7 @@ use faces::VertNo;
 use faces::backward;
 use faces::one_ring;
 use faces::onward;
+use turns::MOST_VALENCE;
 use weights::Stage;
 use weights::micrometres::Whole3;
 use weights::micrometres::edge_inner;
@@ -39,7 +40,7 @@ fn old_point(
     ensures near { λ r. ⌜ Raised3 r ⌝ }
 {
     let s = words[at + 6 * nf + u] as usize;
-    let mut vs: [u32; 16] = [0; 16];
+    let mut vs: [u32; MOST_VALENCE] = [0; MOST_VALENCE];
     let ring = one_ring(words, at, at + 3 * nf, nf, s, &mut vs);
     vertex(
         &work[from..from + 3 * nv],

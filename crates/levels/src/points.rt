@@ -4,6 +4,7 @@ use faces::VertNo;
 use faces::backward;
 use faces::one_ring;
 use faces::onward;
+use turns::MOST_VALENCE;
 use vectors::Vec3;
 use weights::Stage;
 use weights::points::edge_inner;
@@ -37,7 +38,7 @@ fn old_point(
     ensures { λ r. ⌜ listed r ≡ oldPoint single (now (words .entry)) at nf (part from (3 * nv) (now (work .entry))) nv u ⌝ }
 {
     let s = words[at + 6 * nf + u] as usize;
-    let mut vs: [u32; 16] = [0; 16];
+    let mut vs: [u32; MOST_VALENCE] = [0; MOST_VALENCE];
     let ring = one_ring(words, at, at + 3 * nf, nf, s, &mut vs);
     vertex(
         &work[from..from + 3 * nv],

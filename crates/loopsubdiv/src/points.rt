@@ -1,5 +1,6 @@
 // The f32 engine, once the checks are passed. It differs from the whole engine in its number type and in its normals.
 use faces::VertNo;
+use turns::MOST_VALENCE;
 use vectors::Vec3;
 use weights::Stage;
 ghost use mathlib.Core.Path.{_≡_};
@@ -26,7 +27,7 @@ fn limit_at(words: &[u32], at: usize, nf: usize, nv: usize, xs: &[f32], u: usize
     ensures point { λ r. ⌜ listed r ≡ moved single atLimit (meshIn (now (words .entry)) at nf nv) (links (part at (3 * nf) (now (words .entry)))) (now (xs .entry)) u ⌝ }
 {
     let s = words[at + 6 * nf + u] as usize;
-    let mut vs: [u32; 16] = [0; 16];
+    let mut vs: [u32; MOST_VALENCE] = [0; MOST_VALENCE];
     let ring = faces::one_ring(words, at, at + 3 * nf, nf, s, &mut vs);
     weights::points::vertex(xs, VertNo(u as u32), &vs[..ring.n], ring.rim, Stage::Limit)
 }

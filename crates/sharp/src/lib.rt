@@ -1,5 +1,6 @@
 // The whole engine where edges are sharp, once the checks are passed: `micrometres` of crate `loopsubdiv`, with marks.
 use faces::VertNo;
+use turns::MOST_VALENCE;
 use weights::Stage;
 use weights::micrometres::Whole3;
 ghost use mathlib.Core.Path.{_≡_};
@@ -103,7 +104,7 @@ fn limit_at(
     ensures near { λ r. ⌜ Raised3 r ⌝ }
 {
     let s = words[at + 6 * nf + u] as usize;
-    let mut vs: [u32; 16] = [0; 16];
+    let mut vs: [u32; MOST_VALENCE] = [0; MOST_VALENCE];
     let ring = creases::rings::sharp_ring(words, at, at + 3 * nf, marks, nf, s, &mut vs);
     creases::creased(
         xs,

@@ -12,6 +12,7 @@ use Rattle.lists.specs.Lists.{pick, part, bit}
 use Rattle.whole.specs.Whole.{reach}
 use Rattle.whole.specs.Fraction.{Fraction, ofWhole}
 use mathlib.Core.Option.{none, some}
+use Rattle.turns.specs.Turns.{mostValence}
 use Rattle.rules.specs.Mesh.{onward, backward, corner, links, Mesh}
 use Rattle.rules.proofs.Sides.{on-below}
 use Rattle.rules.proofs.Refine.{back-below}
@@ -155,7 +156,7 @@ module _ (w : List ℕ) (at n v : ℕ) (r : Movable w at n v) where
 
 pub record Half (p : Over3) : Type 0 where
   pub above : 0 < p .den / 8
-  pub few : p .den / 8 ≤ 24
+  pub few : p .den / 8 ≤ mostValence
   pub x : p .x ≤ 8 * (p .den / 8) * (2 * reach)
   pub y : p .y ≤ 8 * (p .den / 8) * (2 * reach)
   pub z : p .z ≤ 8 * (p .den / 8) * (2 * reach)
@@ -192,7 +193,7 @@ module _ (j k : ℕ) (a b e : ℕ) (pa : a ≤ 8 * j * (2 * reach)) (pb : b ≤ 
   pub inner-most : e ≤ 10 * (16 * reach) → e * (j * k) + a * k + b * j ≤ 96 * (j * k) * 2000000000
   inner-most h = omega (arith, mul-le-mul-right (j * k) h, mul-le-mul-right j pb, mul-le-mul-right k pa)
 
-pub den-few : (j k : ℕ) → j ≤ 24 → k ≤ 24 → 96 * (j * k) ≤ 55296
+pub den-few : (j k : ℕ) → j ≤ mostValence → k ≤ mostValence → 96 * (j * k) ≤ 96 * (mostValence * mostValence)
 den-few j k p q = omega (arith, mul-le-mul-right k p)
 
 pub den-above : (j k : ℕ) → 0 < j → 0 < k → 0 < j * k

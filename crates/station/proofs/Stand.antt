@@ -10,6 +10,7 @@ use lib.IntN.{ℤ}
 use Rattle.lists.specs.Lists.{part}
 use Rattle.lists.proofs.Places.{tally-below}
 use Rattle.whole.specs.Fraction.{Fraction, ofWhole}
+use Rattle.turns.specs.Turns.{mostValence}
 use Rattle.rules.specs.Mesh.{links, cage, refined}
 use Rattle.rules.specs.Position.{whole, exact}
 use Rattle.rules.specs.Levels.{levels, newPositions, exactLimits}
@@ -41,7 +42,7 @@ module _ (l : ℕ) (fs : List ℕ) (xs : List ℤ) (e : refusal whole l fs xs �
   pub cage-sizes : (length fs ≡ 3 * (length fs / 3)) × (length xs ≡ 3 * (length xs / 3)) × (length fs / 3 ≤ 4096) × (length xs / 3 ≤ 4096)
   cage-sizes = let s = ok .shape in (omega (arith, s .indices), omega (arith, s .coords), s .faces, s .verts)
 
-  small-cage : Small 16 (cage (length xs / 3) fs)
+  small-cage : Small mostValence (cage (length xs / 3) fs)
   unfolding levels
   small-cage = fits whole fs xs l ok 0 (omega arith) .small
 

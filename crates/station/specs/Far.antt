@@ -12,6 +12,7 @@ use Rattle.lists.specs.Lists.{pick, part}
 use Rattle.whole.specs.Whole.{reach, raise}
 use Rattle.whole.specs.Fraction.{Fraction, ofWhole}
 use Rattle.whole.proofs.Value.{Val}
+use Rattle.turns.specs.Turns.{mostValence}
 use Rattle.rules.specs.Mesh.{onward, backward, corner, links, refined}
 use Rattle.rules.specs.Position.{Stage, refining, exact}
 use Rattle.rules.specs.Levels.{coord, newPositions, limits, moved}
@@ -70,7 +71,7 @@ pub record Over (D p : ℕ) (e : Fraction) : Type 0 where
 -- no product of the comparison overflows
 pub record Bounded (o : Over3) : Type 0 where
   pub above : 0 < o .den
-  pub few : o .den ≤ 55296
+  pub few : o .den ≤ 96 * (mostValence * mostValence)
   pub x : o .x ≤ o .den * 2000000000
   pub y : o .y ≤ o .den * 2000000000
   pub z : o .z ≤ o .den * 2000000000
@@ -102,7 +103,7 @@ pub record Stands (o : Over3) (f : ℕ → Fraction) : Type 0 where
 
 -- the denominators of the vertex rules
 pub record Ruled (s : Stage) (o : Over3) : Type 0 where
-  pub few : o .den ≤ 128
+  pub few : o .den ≤ 8 * mostValence
   pub eighth : s ≡ refining → 8 * (o .den / 8) ≡ o .den
 
 -- the point of an edge and its refined ends, small enough to be mixed
@@ -110,8 +111,8 @@ pub record Ends (e a b j k : ℕ) : Type 0 where
   pub edge : e ≤ 10 * (16 * reach)
   pub one : a ≤ 8 * j * (2 * reach)
   pub other : b ≤ 8 * k * (2 * reach)
-  pub few : j ≤ 24
-  pub few′ : k ≤ 24
+  pub few : j ≤ mostValence
+  pub few′ : k ≤ mostValence
 
 -- o is vertex u of the exact points es
 pub record Exactly (o : Over3) (es : List Fraction) (u : ℕ) : Type 0 where

@@ -1,6 +1,7 @@
 // The exact limit of a vertex at level 0 and 1, from the control cage in words: three raised coordinates over one denominator. Naturals only, and no product leaves 64 bits.
 use faces::backward;
 use faces::onward;
+use turns::MOST_VALENCE;
 use weights::Stage;
 use weights::micrometres::Share;
 ghost use mathlib.Core.Path.{_≡_};
@@ -103,7 +104,7 @@ fn vertex_over(
     ensures den { λ r. ⌜ Ruled (staged stage) r ⌝ }
 {
     let s = words[at + 6 * nf + u] as usize;
-    let mut vs: [u32; 16] = [0; 16];
+    let mut vs: [u32; MOST_VALENCE] = [0; MOST_VALENCE];
     let ring = faces::one_ring(words, at, at + 3 * nf, nf, s, &mut vs);
     ring_over(xs, u, &vs[..ring.n], ring.rim, stage)
 }

@@ -12,6 +12,7 @@ ghost use lib.ListN.{length, getD};
 ghost use lib.IntN.{pos};
 ghost use lib.Signed.{mag};
 ghost use Rattle.lists.specs.Lists.{pick, part, tally, bit, count};
+ghost use Rattle.turns.specs.Turns.{mostValence};
 ghost use Rattle.rules.specs.Mesh.{links, firstMet};
 ghost use Rattle.rules.specs.Position.{whole};
 ghost use Rattle.rules.specs.Levels.{exactLimits};
@@ -37,7 +38,7 @@ fn apart(a: u64, b: u64) -> u64
 
 // The least tolerance, from the exact limit num / den - reach.
 fn need(y: i32, num: u64, den: u64) -> u64
-    requires { ⌜ (0 < den) × ((den ≤ 55296) × (num ≤ den * 2000000000)) ⌝ }
+    requires { ⌜ (0 < den) × ((den ≤ 96 * (mostValence * mostValence)) × (num ≤ den * 2000000000)) ⌝ }
     ensures { λ r. ⌜ (r ≡ needOver (lift y) num den) × (r < 4294967296) ⌝ }
 {
     let a = lifted(y) * den;
@@ -47,7 +48,7 @@ fn need(y: i32, num: u64, den: u64) -> u64
 
 // Of coordinate i of the claim.
 fn need_at(ys: &[i32], i: usize, num: u64, den: u64) -> u32
-    requires { ⌜ (i < length (now ys)) × ((0 < den) × ((den ≤ 55296) × (num ≤ den * 2000000000))) ⌝ }
+    requires { ⌜ (i < length (now ys)) × ((0 < den) × ((den ≤ 96 * (mostValence * mostValence)) × (num ≤ den * 2000000000))) ⌝ }
     ensures { λ r. ⌜ (r ≡ needOver (lift (getD (now (ys .entry)) i (pos 0))) num den) × (mag (getD (now (ys .entry)) i (pos 0)) < 2147483648) ⌝ }
 {
     need(ys[i], num, den) as u32

@@ -28,7 +28,7 @@ use Rattle.rules.proofs.Refine.{Good}
 use Rattle.rules.proofs.Turns.{Turned, round, fringe, turned}
 use Rattle.rules.proofs.Levels.{facesAt, Small}
 use Rattle.faces.proofs.Held.{length-ring}
-use Rattle.turns.specs.Turns.{entry, halfCosine, halfSine, folded, cosine, turned as signed, sine}
+use Rattle.turns.specs.Turns.{mostValence, entry, halfCosine, halfSine, folded, cosine, turned as signed, sine}
 use Rattle.turns.specs.Table.{place, cosTable, sinTable}
 use Rattle.turns.proofs.Rule.{cos-rule, sin-rule, placed}
 use Rattle.tangents.proofs.Sizes.{Size, round-size, neg-size, add-size, sub-size, mul-size}
@@ -39,22 +39,25 @@ use Rattle.tangents.proofs.Rings.{three-long}
 
 -- ---- sine and cosine are at most 1, each entry computed
 
-cos-small : map (λ z. sized 1 1 (entry z)) cosTable ≡ replicate 147 true
+abbrev entries : ℕ
+entries = place 0 (mostValence + 1)
+
+cos-small : map (λ z. sized 1 1 (entry z)) cosTable ≡ replicate entries true
 unfolding cosTable ofInt div
 cos-small = refl
 
-sin-small : map (λ z. sized 1 1 (entry z)) sinTable ≡ replicate 147 true
+sin-small : map (λ z. sized 1 1 (entry z)) sinTable ≡ replicate entries true
 unfolding sinTable ofInt div
 sin-small = refl
 
-small-at : (l : List ℤ) → map (λ z. sized 1 1 (entry z)) l ≡ replicate 147 true → (i : ℕ) → i < 147 → Size 1 1 (entry (getD l i (pos 0)))
+small-at : (l : List ℤ) → map (λ z. sized 1 1 (entry z)) l ≡ replicate entries true → (i : ℕ) → i < entries → Size 1 1 (entry (getD l i (pos 0)))
 small-at l e i h =
-    let n : length l ≡ 147 = sym (length-map l (λ z. sized 1 1 (entry z))) ∙ ap length e ∙ length-replicate 147 true in
+    let n : length l ≡ entries = sym (length-map l (λ z. sized 1 1 (entry z))) ∙ ap length e ∙ length-replicate entries true in
     let q : sized 1 1 (entry (getD l i (pos 0))) ≡ true =
-    sym (getD-map (λ z. sized 1 1 (entry z)) l i (pos 0) false (omega arith)) ∙ ap (λ (t : List Bool). getD t i false) e ∙ getD-replicate 147 i true false h in
+    sym (getD-map (λ z. sized 1 1 (entry z)) l i (pos 0) false (omega arith)) ∙ ap (λ (t : List Bool). getD t i false) e ∙ getD-replicate entries i true false h in
     tested 1 1 (entry (getD l i (pos 0))) (rw q tt)
 
-module _ (k m : ℕ) (a : 3 ≤ m) (b : m ≤ 16) (h : k ≤ m) where
+module _ (k m : ℕ) (a : 3 ≤ m) (b : m ≤ mostValence) (h : k ≤ m) where
   half-cosine-size : Size 1 1 (halfCosine k m)
   unfolding halfCosine
   half-cosine-size = rw (← cos-rule k m a b h) (small-at cosTable cos-small (place k m) (placed k m a b h .2))
@@ -63,7 +66,7 @@ module _ (k m : ℕ) (a : 3 ≤ m) (b : m ≤ 16) (h : k ≤ m) where
   unfolding halfSine
   half-sine-size = rw (← sin-rule k m a b h) (small-at sinTable sin-small (place k m) (placed k m a b h .2))
 
-module _ (i n : ℕ) (a : 3 ≤ n) (b : n ≤ 16) (h : i < n) where
+module _ (i n : ℕ) (a : 3 ≤ n) (b : n ≤ mostValence) (h : i < n) where
   folded-within : (w : Bool) → leb (2 * i) n ≡ w → folded w i n ≤ n
   folded-within true e = leb→le (2 * i) n (rw e tt)
   folded-within false e = let q = nleb→lt (2 * i) n (rw e tt) in omega arith
@@ -87,7 +90,7 @@ unfolding ofInt
 two = lit≤ tt
 
 -- (2 cos theta - 2) sin(k theta) is at most 4
-rim-weight-size : (m k : ℕ) → 3 ≤ m → m ≤ 16 → k ≤ m → Size 4 1 (rimWeight m k)
+rim-weight-size : (m k : ℕ) → 3 ≤ m → m ≤ mostValence → k ≤ m → Size 4 1 (rimWeight m k)
 rim-weight-size m k a b h =
     let c = mul-size binary32 2 1 1 1 2 0 (f32 2) (halfCosine 1 m) two (half-cosine-size 1 m a b (omega arith)) (lit≤ tt) (lit≤ tt) (lit≤ tt) (lit≤ tt) (lit≤ tt) in
     let d = sub-size binary32 2 2 0 (mul binary32 (f32 2) (halfCosine 1 m)) (f32 2) c two (lit≤ tt) (lit≤ tt) in
@@ -139,7 +142,7 @@ module _ (j : ℕ) (k : j ≤ 100) where
 
   -- ---- the tangents from points of size at most 2 ^ (18 + j): at most 58 times as large
 
-  module _ (rs : List Vec3) (few : length rs ≤ 16) (near : (i : ℕ) → i < length rs → Sized 262144 j (getD rs i origin)) where
+  module _ (rs : List Vec3) (few : length rs ≤ mostValence) (near : (i : ℕ) → i < length rs → Sized 262144 j (getD rs i origin)) where
     inner-size : 3 ≤ length rs → Sized 15204352 j (innerTangents rs .s) × Sized 15204352 j (innerTangents rs .t)
     inner-size h =
         let n = length rs in
@@ -173,7 +176,7 @@ module _ (j : ℕ) (k : j ≤ 100) where
   unfolding ofInt neg
   minus-two = lit≤ tt
 
-  rim-size : (p : Vec3) (rs : List Vec3) → length rs ≤ 16 → Sized 262144 j p → ((i : ℕ) → i < length rs → Sized 262144 j (getD rs i origin)) → Sized 15204352 j (rimTangent p rs)
+  rim-size : (p : Vec3) (rs : List Vec3) → length rs ≤ mostValence → Sized 262144 j p → ((i : ℕ) → i < length rs → Sized 262144 j (getD rs i origin)) → Sized 15204352 j (rimTangent p rs)
   rim-size p [] few s near = origin-size 15204352
   rim-size p (a ∷ []) few s near = origin-size 15204352
   rim-size p (a ∷ b ∷ []) few s near =
@@ -232,7 +235,7 @@ module _ (xs : List Float) (near : AllNear 30 xs) where
   points-size : (vs : List ℕ) (i : ℕ) → i < length (map (point xs) vs) → Sized 262144 30 (getD (map (point xs) vs) i origin)
   points-size vs i h = rw (getD-map (point xs) vs i 0 origin (rw (length-map vs (point xs)) at h)) (point-size (getD vs i 0))
 
-  fan-size : (v n : ℕ) (fs : List ℕ) (g : Good v n fs) (u s : ℕ) (f : Fan) → Turned n fs s f → valence f ≤ 16 → Sized 8388608 86 (normal (tangentsAt fs xs u f))
+  fan-size : (v n : ℕ) (fs : List ℕ) (g : Good v n fs) (u s : ℕ) (f : Fan) → Turned n fs s f → valence f ≤ mostValence → Sized 8388608 86 (normal (tangentsAt fs xs u f))
   fan-size v n fs g u s _ (round cs r) few =
       let vs = ring fs (inner cs) in
       let rs = map (point xs) vs in

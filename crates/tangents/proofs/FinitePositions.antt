@@ -16,6 +16,7 @@ use lib.Ieee.Fits.{and-l, and-r}
 use lib.Ieee.Scale.{finite}
 use Rattle.lists.specs.Lists.{count}
 use Rattle.lists.proofs.Places.{getD-map, getD-count}
+use Rattle.turns.specs.Turns.{mostValence}
 use Rattle.rules.specs.Mesh.{onward, backward, corner, links, Fan, inner, rim, fan, valence, ring, Mesh, cage, firsts}
 use Rattle.rules.specs.Position.{Stage, refining, limit, Rule, ringRule, rimRule, f32, weight, ownWeight, onto, farthest, single}
 use Rattle.rules.specs.Levels.{ends, coord, blended, edgeAt, newPositions, limits, Level, first, finer, levels, last, positions}
@@ -78,7 +79,7 @@ onto-size b c j p h k (q ∷ qs) near a x s l =
 abbrev weighs : Rule → ℕ → Bool
 weighs r n = sized (183500 / n) 262144 (weight r) && sized 262144 262144 (ownWeight (weight r) n)
 
-rings-weigh : (s : Stage) → map (λ n. weighs (ringRule s n) n) (count 3 14) ≡ replicate 14 true
+rings-weigh : (s : Stage) → map (λ n. weighs (ringRule s n) n) (count 3 (mostValence - 2)) ≡ replicate (mostValence - 2) true
 unfolding ofInt add sub mul div neg
 rings-weigh refining = refl
 rings-weigh limit = refl
@@ -88,13 +89,13 @@ unfolding ofInt add sub mul div neg
 rims-weigh refining = refl
 rims-weigh limit = refl
 
-ring-weighs : (s : Stage) (n : ℕ) → 3 ≤ n → n ≤ 16 → weighs (ringRule s n) n ≡ true
+ring-weighs : (s : Stage) (n : ℕ) → 3 ≤ n → n ≤ mostValence → weighs (ringRule s n) n ≡ true
 ring-weighs s n a b =
     let e : 3 + (n - 3) ≡ n = omega arith in
     let f : ℕ → Bool = λ n. weighs (ringRule s n) n in
-    let h : n - 3 < 14 = omega arith in
-    sym (getD-map f (count 3 14) (n - 3) 0 false h ∙ ap f (getD-count 3 14 (n - 3) 0 h ∙ e))
-    ∙ ap (λ (l : List Bool). getD l (n - 3) false) (rings-weigh s) ∙ getD-replicate 14 (n - 3) true false h
+    let h : n - 3 < mostValence - 2 = omega arith in
+    sym (getD-map f (count 3 (mostValence - 2)) (n - 3) 0 false h ∙ ap f (getD-count 3 (mostValence - 2) (n - 3) 0 h ∙ e))
+    ∙ ap (λ (l : List Bool). getD l (n - 3) false) (rings-weigh s) ∙ getD-replicate (mostValence - 2) (n - 3) true false h
 
 blend-size : (r : Rule) (j : ℕ) (p : Float) (qs : List Float) → weighs r (length qs) ≡ true → 0 < length qs → j ≤ 99 → Near j p → ((i : ℕ) → i < length qs → Near j (getD qs i (f32 0))) →
     Near (j + 1) (single .blend r p qs)
@@ -154,7 +155,7 @@ module _ (j : ℕ) (k : j ≤ 99) (xs : List Float) (near : AllNear j xs) where
       let l : i < length vs = rw (length-map vs (coord single xs c)) at h in
       rw (getD-map (coord single xs c) vs i 0 (f32 0) l) (near .at (3 * getD vs i 0 + c))
 
-  blended-size : (p : Stage) (v n : ℕ) (fs : List ℕ) (g : Good v n fs) (u s : ℕ) (f : Fan) → Turned n fs s f → valence f ≤ 16 → (c : ℕ) → Near (j + 1) (blended single p fs xs u f c)
+  blended-size : (p : Stage) (v n : ℕ) (fs : List ℕ) (g : Good v n fs) (u s : ℕ) (f : Fan) → Turned n fs s f → valence f ≤ mostValence → (c : ℕ) → Near (j + 1) (blended single p fs xs u f c)
   blended-size p v n fs g u s _ (round cs r) few c =
       let vs = ring fs (inner cs) in
       let e : length (map (coord single xs c) vs) ≡ length cs = length-map vs (coord single xs c) ∙ length-map cs (λ s. corner fs (onward s)) in
@@ -186,7 +187,7 @@ module _ (j : ℕ) (k : j ≤ 99) (xs : List Float) (near : AllNear j xs) where
           rw q at (h (i / 3) (i % 3) (omega arith) (omega arith))
       go i (no a) = rw (List·getD-eq-default ys (f32 0) {n = i} (omega arith)) (zero-size (262144 * 2 ^ l))
 
-  module _ (n : ℕ) (m : Mesh) (p : Sound n m) (few : Small 16 m) where
+  module _ (n : ℕ) (m : Mesh) (p : Sound n m) (few : Small mostValence m) where
     vertex-size : (s : Stage) (u c : ℕ) → u < m .verts → Near (j + 1) (blended single s (m .faces) xs u (fan (links (m .faces)) (getD (m .starts) u 0)) c)
     unfolding Small
     vertex-size s u c h =
@@ -211,13 +212,13 @@ module _ (j : ℕ) (k : j ≤ 99) (xs : List Float) (near : AllNear j xs) where
     limits-size : AllNear (j + 1) (limits single m (links (m .faces)) xs)
     limits-size = by-place (m .verts) (j + 1) (limits single m (links (m .faces)) xs) (length-limits single m (links (m .faces)) xs) (λ u c h q. rw (limit-at single m (links (m .faces)) xs u c h q) (vertex-size limit u c h))
 
-levels-size : (l j n : ℕ) (a : Level single) → j + l ≤ 99 → Sound n (a .mesh) → Small 16 (a .mesh) → AllNear j (a .points) → AllNear (j + l) (levels single l a .points)
+levels-size : (l j n : ℕ) (a : Level single) → j + l ≤ 99 → Sound n (a .mesh) → Small mostValence (a .mesh) → AllNear j (a .points) → AllNear (j + l) (levels single l a .points)
 unfolding levels finer
 levels-size zero j n a k p few h = let e : j + 0 ≡ j = omega arith in rw e h
 levels-size (suc l) j n a k p few h =
     let ls = links (a .mesh .faces) in
     let e : j + suc l ≡ j + 1 + l = omega arith in
-    rw e (levels-size l (j + 1) (4 * n) (finer single a) (omega arith) (sound-refined n (a .mesh) p) (small-refined 16 n (a .mesh) (lit≤ tt) p few) (new-size j (omega arith) (a .points) h n (a .mesh) p few))
+    rw e (levels-size l (j + 1) (4 * n) (finer single a) (omega arith) (sound-refined n (a .mesh) p) (small-refined mostValence n (a .mesh) (lit≤ tt) p few) (new-size j (omega arith) (a .points) h n (a .mesh) p few))
 
 -- ---- an accepted cage's
 
@@ -255,7 +256,7 @@ module _ (l : ℕ) (fs : List ℕ) (xs : List Float) (ok : refusal single l fs x
       go i (yes h) = allowed-near (getD xs i (f32 0)) (accepted single l fs xs ok .allowed i h)
       go i (no h) = rw (List·getD-eq-default xs (f32 0) {n = i} (omega arith)) (zero-size (262144 * 2 ^ 22))
 
-  small-cage : Small 16 (cage (length xs / 3) fs)
+  small-cage : Small mostValence (cage (length xs / 3) fs)
   unfolding Small cage
   small-cage = accepted single l fs xs ok .fans .valences
 
@@ -263,8 +264,8 @@ module _ (l : ℕ) (fs : List ℕ) (xs : List Float) (ok : refusal single l fs x
   pub last-sound : Sound (facesAt l (length fs / 3)) (last single l fs xs .mesh)
   last-sound = rw (mesh-levels single l (first single fs xs)) (sound-level l (length fs / 3) (cage (length xs / 3) fs) (accepted single l fs xs ok .sound))
 
-  pub last-small : Small 16 (last single l fs xs .mesh)
-  last-small = rw (mesh-levels single l (first single fs xs)) (small-level 16 l (length fs / 3) (cage (length xs / 3) fs) (lit≤ tt) (accepted single l fs xs ok .sound) small-cage)
+  pub last-small : Small mostValence (last single l fs xs .mesh)
+  last-small = rw (mesh-levels single l (first single fs xs)) (small-level mostValence l (length fs / 3) (cage (length xs / 3) fs) (lit≤ tt) (accepted single l fs xs ok .sound) small-cage)
 
   pub positions-near : AllNear 30 (positions single (last single l fs xs))
   unfolding positions

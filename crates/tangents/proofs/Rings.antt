@@ -11,6 +11,7 @@ use Rattle.lists.specs.Lists.{count, gather, part}
 use Rattle.lists.proofs.Stores.{part-of, piece-more}
 use Rattle.vectors.specs.declared.Vec3.{Vec3}
 use Rattle.vectors.specs.Vectors.{origin}
+use Rattle.turns.specs.Turns.{mostValence}
 use Rattle.rules.specs.Mesh.{links, Fan, fan, ring, Mesh}
 use Rattle.rules.specs.Tangents.{Pair, point, tangentsAt, normal, threeOf, normalAt}
 use Rattle.rules.proofs.Turns.{Turned, round, fringe, turned}
@@ -18,15 +19,15 @@ use Rattle.faces.specs.Words.{linksIn}
 use Rattle.faces.specs.Rings.{Ringable, isRim, ringOf}
 use Rattle.faces.specs.declared.Ring.{Ring}
 use Rattle.faces.proofs.Held.{start-ringable, length-ring}
-use Rattle.weights.specs.Lent.{There, AllThere, sixteen}
+use Rattle.weights.specs.Lent.{There, AllThere, ringful}
 use Rattle.weights.proofs.Joins.{fanAt, ringAt, there, ring-there, lent-rim, lent-fits, lent-ring}
 use Rattle.levels.specs.Level.{meshIn}
 use Rattle.tangents.specs.Normals.{tangentsBy, fewest, Smooth, normalIn}
 use Rattle.tangents.proofs.Valence.{ring-fewest}
 
--- the points of a ring, among sixteen
-pub points-are : (xs : List Float) (vs : List ℕ) → length vs ≤ 16 → take (length vs) (sixteen (map (point xs) vs)) ≡ map (point xs) vs
-points-are xs vs few = part-of (map (point xs) vs) (replicate 16 origin) 0 (length vs) (length-map vs (point xs)) (omega arith)
+-- the points of a ring, among those held
+pub points-are : (xs : List Float) (vs : List ℕ) → length vs ≤ mostValence → take (length vs) (ringful (map (point xs) vs)) ≡ map (point xs) vs
+points-are xs vs few = part-of (map (point xs) vs) (replicate mostValence origin) 0 (length vs) (length-map vs (point xs)) (omega arith)
 
 -- the tangents by the ring of a fan are those of document 01
 tangents-of : (n : ℕ) (fs : List ℕ) (xs : List Float) (u s : ℕ) (f : Fan) → Turned n fs s f → tangentsBy xs u (isRim f) (ring fs f) ≡ tangentsAt fs xs u f
@@ -66,7 +67,7 @@ module _ (w : List ℕ) (at n v : ℕ) (xs : List Float) (h : Smooth w at n v xs
   gives = ap (λ (p : Pair). threeOf (normal p)) (tangents-of n (mesh .faces) xs u start (fanAt mesh u) (turned v n (mesh .faces) (h .sound .good) start (h .sound .below u k)))
 
   -- its ring as `one_ring` leaves it, in the numbers l that were lent
-  pub ring-left : (r : Ring) (l o : List ℕ) → 16 ≤ length l →
+  pub ring-left : (r : Ring) (l o : List ℕ) → mostValence ≤ length l →
       (r ≡ ringOf (part at (3 * n) w) (fan (linksIn w (at + 3 * n) (3 * n)) (getD w (at + 6 * n + u) 0))) ×
       (o ≡ sets l 0 (ring (part at (3 * n) w) (fan (linksIn w (at + 3 * n) (3 * n)) (getD w (at + 6 * n + u) 0)))) →
       Ringed xs u r o (normalIn w at n v xs u)

@@ -1,6 +1,7 @@
 // Document 01, "Tangents use limit positions of vertex and ring", in f32: each operation rounded once, in the written order.
 use faces::VertNo;
 use faces::one_ring;
+use turns::MOST_VALENCE;
 use turns::cosine;
 use turns::cosines;
 use turns::half_cosine;
@@ -70,7 +71,7 @@ fn rim_tangent_4(p: Vec3, a: Vec3, b: Vec3, c: Vec3, d: Vec3) -> Vec3
 }
 
 // T from valence 5 on.
-fn rim_tangent_5(cos: &[i32], sin: &[i32], p: Vec3, ring: [Vec3; 16], n: usize) -> Vec3
+fn rim_tangent_5(cos: &[i32], sin: &[i32], p: Vec3, ring: [Vec3; MOST_VALENCE], n: usize) -> Vec3
     requires { ⌜ Tables (now cos) (now sin) ⌝ }
     requires { ⌜ (5 ≤ n) × (n ≤ mostValence) ⌝ }
     ensures { λ r. ⌜ r ≡ rimTangent p (take n ring) ⌝ }
@@ -89,7 +90,7 @@ fn rim_tangent_5(cos: &[i32], sin: &[i32], p: Vec3, ring: [Vec3; 16], n: usize) 
 }
 
 // T at a rim point p.
-pub fn rim_tangent(cos: &[i32], sin: &[i32], p: Vec3, ring: [Vec3; 16], n: usize) -> Vec3
+pub fn rim_tangent(cos: &[i32], sin: &[i32], p: Vec3, ring: [Vec3; MOST_VALENCE], n: usize) -> Vec3
     requires { ⌜ Tables (now cos) (now sin) ⌝ }
     requires { ⌜ (2 ≤ n) × (n ≤ mostValence) ⌝ }
     ensures { λ r. ⌜ r ≡ rimTangent p (take n ring) ⌝ }
@@ -114,7 +115,13 @@ pub fn rim_tangent(cos: &[i32], sin: &[i32], p: Vec3, ring: [Vec3; 16], n: usize
 }
 
 // S = last - first.
-pub fn rim_tangents(cos: &[i32], sin: &[i32], p: Vec3, ring: [Vec3; 16], n: usize) -> Tangents
+pub fn rim_tangents(
+    cos: &[i32],
+    sin: &[i32],
+    p: Vec3,
+    ring: [Vec3; MOST_VALENCE],
+    n: usize,
+) -> Tangents
     requires { ⌜ Tables (now cos) (now sin) ⌝ }
     requires { ⌜ (2 ≤ n) × (n ≤ mostValence) ⌝ }
     ensures { λ r. ⌜ r ≡ both (rimTangents p (take n ring)) ⌝ }
@@ -170,7 +177,7 @@ pub fn normal_at(
     ensures { λ r. ⌜ threeOf r ≡ normalIn (now (words .entry)) at nf nv (now (xs .entry)) (v .0) ⌝ }
 {
     let s = words[at + 6 * nf + v.0 as usize] as usize;
-    let mut vs: [u32; 16] = [0; 16];
+    let mut vs: [u32; MOST_VALENCE] = [0; MOST_VALENCE];
     let ring = one_ring(words, at, at + 3 * nf, nf, s, &mut vs);
     normal(tangents_at(cos, sin, xs, v, &vs[..ring.n], ring.rim))
 }

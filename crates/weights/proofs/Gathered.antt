@@ -12,10 +12,11 @@ use Rattle.lists.proofs.Places.{getD-map, getD-any, map-map}
 use Rattle.lists.proofs.Stores.{copy-more}
 use Rattle.vectors.specs.declared.Vec3.{Vec3}
 use Rattle.vectors.specs.Vectors.{origin}
+use Rattle.turns.specs.Turns.{mostValence}
 use Rattle.rules.specs.Position.{Stage, weight, weighed, ringRule, rimRule, single}
 use Rattle.rules.specs.Levels.{ends, coord, three}
 use Rattle.weights.specs.Weights.{ruleOf, carried, alike, nowhere}
-use Rattle.weights.specs.Lent.{byRing, listed, pointAt, sixteen, weightedPoint}
+use Rattle.weights.specs.Lent.{byRing, listed, pointAt, ringful, weightedPoint}
 
 pub point-is : (xs : List Float) (v : ℕ) (d : Float) → 3 * v + 3 ≤ length xs →
     _≡_ {A = Vec3} (record { x = getD xs (3 * v) d; y = getD xs (3 * v + 1) d; z = getD xs (3 * v + 2) d }) (pointAt xs v)
@@ -38,7 +39,7 @@ module _ (l : List Float) (vs : List ℕ) where
       ap₂ (λ (x : List Vec3) (y : Vec3). set x i y) e (f ∙ sym (getD-map (pointAt l) vs i 0 nowhere k))
       ∙ copy-more o (map (pointAt l) vs) i nowhere (rw (length-map vs (pointAt l)) k)
 
-  pub fill-all : (o : Vec3) {i : ℕ} {out : List Vec3} → i ≡ length vs → out ≡ sets (replicate 16 o) 0 (take i (map (pointAt l) vs)) → o ≡ origin →
-      out ≡ sixteen (map (pointAt l) vs)
+  pub fill-all : (o : Vec3) {i : ℕ} {out : List Vec3} → i ≡ length vs → out ≡ sets (replicate mostValence o) 0 (take i (map (pointAt l) vs)) → o ≡ origin →
+      out ≡ ringful (map (pointAt l) vs)
   fill-all o {i} k e f =
-      e ∙ ap₂ (λ (x : Vec3) (y : List Vec3). sets (replicate 16 x) 0 y) f (take-all i (map (pointAt l) vs) (omega (arith, length-map vs (pointAt l))))
+      e ∙ ap₂ (λ (x : Vec3) (y : List Vec3). sets (replicate mostValence x) 0 y) f (take-all i (map (pointAt l) vs) (omega (arith, length-map vs (pointAt l))))

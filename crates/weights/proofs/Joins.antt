@@ -12,6 +12,7 @@ use lib.Ieee.{Float}
 use Rattle.lists.specs.Lists.{part}
 use Rattle.lists.proofs.Places.{getD-map}
 use Rattle.lists.proofs.Stores.{part-of}
+use Rattle.turns.specs.Turns.{mostValence}
 use Rattle.rules.specs.Mesh.{onward, backward, corner, links, Fan, inner, rim, endless, fan, ring, Mesh}
 use Rattle.rules.specs.Position.{Stage, ringRule, Numbers}
 use Rattle.rules.specs.Levels.{coord, three, blended, moved, edgeAt}
@@ -66,14 +67,14 @@ readable {u} l a h = record { room = omega arith; near = λ c k. a .at (3 * u + 
 pub there : {xs : List Float} {v u : ℕ} → 3 * v ≤ length xs → u < v → There xs u
 there l h = record { room = omega arith }
 
-module _ (n : ℕ) (m : Mesh) (p : Sound n m) (few : Small 16 m) (u : ℕ) (h : u < m .verts) where
+module _ (n : ℕ) (m : Mesh) (p : Sound n m) (few : Small mostValence m) (u : ℕ) (h : u < m .verts) where
   pub turns : Turned n (m .faces) (getD (m .starts) u 0) (fanAt m u)
   turns = turned (m .verts) n (m .faces) (p .good) (getD (m .starts) u 0) (p .below u h)
 
   pub ring-filled : 0 < length (ringAt m u)
   ring-filled = filled (m .verts) n (m .faces) (p .good) (getD (m .starts) u 0) (fanAt m u) turns
 
-  pub ring-few : length (ringAt m u) ≤ 16
+  pub ring-few : length (ringAt m u) ≤ mostValence
   unfolding Small
   ring-few = rw (length-ring (m .faces) (fanAt m u)) (few u h)
 
@@ -93,9 +94,9 @@ module _ (n : ℕ) (m : Mesh) (p : Sound n m) (few : Small 16 m) (u : ℕ) (h : 
       (by-fan 𝓝 s (m .faces) xs u (fanAt m u) (fan-ends (m .verts) n (m .faces) (p .good) (getD (m .starts) u 0) (p .below u h)))
 
 -- ---- the same ring, as `one_ring` leaves it in lent numbers o that were l, of a mesh that stands in words w
-module _ (w : List ℕ) (at n : ℕ) (m : Mesh) (h : Holds w at m) (p : Sound n m) (few : Small 16 m) (u : ℕ) (k : u < m .verts)
+module _ (w : List ℕ) (at n : ℕ) (m : Mesh) (h : Holds w at m) (p : Sound n m) (few : Small mostValence m) (u : ℕ) (k : u < m .verts)
     (x : Ring) (e : x ≡ ringOf (part at (3 * n) w) (fan (linksIn w (at + 3 * n) (3 * n)) (getD w (at + 6 * n + u) 0)))
-    (l o : List ℕ) (long : 16 ≤ length l) (f : o ≡ sets l 0 (ring (part at (3 * n) w) (fan (linksIn w (at + 3 * n) (3 * n)) (getD w (at + 6 * n + u) 0)))) where
+    (l o : List ℕ) (long : mostValence ≤ length l) (f : o ≡ sets l 0 (ring (part at (3 * n) w) (fan (linksIn w (at + 3 * n) (3 * n)) (getD w (at + 6 * n + u) 0)))) where
   is : x ≡ ringOf (m .faces) (fanAt m u)
   is = e ∙ start-ring-of w at n m h p u k
 

@@ -15,6 +15,7 @@ use Rattle.lists.proofs.Places.{last-at}
 use Rattle.whole.specs.Whole.{reach, nearest, raise, lower}
 use Rattle.whole.proofs.Reading.{is-sub}
 use Rattle.whole.proofs.Sums.{Raised, raised-add, raised-times, raised-as, rounded-is}
+use Rattle.turns.specs.Turns.{mostValence}
 use Rattle.rules.specs.Position.{Stage, refining, limit, ringRule, rimRule, outOf, sum, whole}
 use Rattle.rules.specs.Levels.{ends, coord}
 use Rattle.rules.proofs.Weights.{ring-adds-up, rim-adds-up}
@@ -60,23 +61,23 @@ weighed {w} h a b = raised-as (raised-add (raised-times (w .own) a) (raised-time
 pub weighed-fits : {w : Share} {k p s : ℕ} → Whole w k → p ≤ 2 * reach → s ≤ k * (2 * reach) → w .own * p + w .each * s ≤ w .all * (2 * reach)
 weighed-fits {w} {k} {p} {s} h l m = omega (arith, ap (λ (x : ℕ). x * (2 * reach)) (h .together), mul-le-mul-left (w .own) l, mul-le-mul-left (w .each) m)
 
-few : (s : Stage) (b : Bool) (n : ℕ) → eqb n 3 ≡ b → n ≤ 16 → outOf (ringRule s n) ≤ 128
+few : (s : Stage) (b : Bool) (n : ℕ) → eqb n 3 ≡ b → n ≤ mostValence → outOf (ringRule s n) ≤ 8 * mostValence
 few refining true n e h = rw e (omega arith)
 few refining false n e h = rw e (omega arith)
 few limit true n e h = rw e (omega arith)
 few limit false n e h = rw e (omega arith)
 
-few-rim : (s : Stage) → outOf (rimRule s) ≤ 128
+few-rim : (s : Stage) → outOf (rimRule s) ≤ 8 * mostValence
 few-rim refining = omega arith
 few-rim limit = omega arith
 
 -- the shares of a rule are a whole
-pub shares-whole : (s : Stage) (rim : Bool) (n : ℕ) → 0 < n → n ≤ 16 → Whole (shareOf (ruleOf s rim n) (weighings rim n)) (weighings rim n)
+pub shares-whole : (s : Stage) (rim : Bool) (n : ℕ) → 0 < n → n ≤ mostValence → Whole (shareOf (ruleOf s rim n) (weighings rim n)) (weighings rim n)
 shares-whole s true n h k = let a = rim-adds-up s in record { above = a .above; few = few-rim s; together = a .all }
 shares-whole s false n h k = let a = ring-adds-up s n h in record { above = a .above; few = few s (eqb n 3) n refl k; together = a .all }
 
 -- so that they fit, and the mean by them is that of the rule
-module _ (s : Stage) (xs : List ℤ) (v : ℕ) (rim : Bool) (vs : List ℕ) {w : Share} (some : 0 < length vs) (few : length vs ≤ 16)
+module _ (s : Stage) (xs : List ℤ) (v : ℕ) (rim : Bool) (vs : List ℕ) {w : Share} (some : 0 < length vs) (few : length vs ≤ mostValence)
     (e : w ≡ shareOf (ruleOf s rim (length vs)) (weighings rim (length vs))) where
   all : Whole w (weighings rim (length vs))
   all = rw e (shares-whole s rim (length vs) some few)

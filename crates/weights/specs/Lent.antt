@@ -11,6 +11,7 @@ use Rattle.lists.specs.Lists.{pick}
 use Rattle.whole.specs.Whole.{reach, Near, nearest, lower}
 use Rattle.vectors.specs.declared.Vec3.{Vec3}
 use Rattle.vectors.specs.Vectors.{origin}
+use Rattle.turns.specs.Turns.{mostValence}
 use Rattle.rules.specs.Position as paper
 use Rattle.rules.specs.Position.{Stage, each, outOf, Numbers, sum, weighed, single, whole}
 use Rattle.rules.specs.Levels.{ends, coord}
@@ -54,7 +55,7 @@ pub record There (xs : List Float) (v : ℕ) : Type 0 where
 
 -- and those of a ring
 pub record AllThere (xs : List Float) (vs : List ℕ) : Type 0 where
-  pub few : length vs ≤ 16
+  pub few : length vs ≤ mostValence
   pub at : (k : ℕ) → k < length vs → There xs (getD vs k 0)
 
 abbrev pub pointAt : List Float → ℕ → Vec3
@@ -71,9 +72,9 @@ weightedPoint (Rim b) xs v vs = weighedPoint b xs v (ends vs)
 abbrev pub listed : Vec3 → List Float
 listed p = p .x ∷ p .y ∷ p .z ∷ []
 
--- sixteen places, the points first; the origin stands in the others
-abbrev pub sixteen : List Vec3 → List Vec3
-sixteen ps = sets (replicate 16 origin) 0 ps
+-- as many places as a ring can fill, the points first; the origin stands in the others
+abbrev pub ringful : List Vec3 → List Vec3
+ringful ps = sets (replicate mostValence origin) 0 ps
 
 -- ---- whole micrometres
 
@@ -84,7 +85,7 @@ pub record Readable (xs : List ℤ) (v : ℕ) : Type 0 where
 
 -- and those of a ring
 pub record AllReadable (xs : List ℤ) (vs : List ℕ) : Type 0 where
-  pub few : length vs ≤ 16
+  pub few : length vs ≤ mostValence
   pub at : (k : ℕ) → k < length vs → Readable xs (getD vs k 0)
 
 -- s is a sum of raised numbers of weight w in all, and stands for z
@@ -111,13 +112,13 @@ mean w p qs = nearest (pos (w .own) *ℤ p +ℤ pos (w .each) *ℤ sum qs) (w .a
 -- the shares of n beside one add up, to few enough
 pub record Whole (w : Share) (n : ℕ) : Type 0 where
   pub above : 0 < w .all
-  pub few : w .all ≤ 128
+  pub few : w .all ≤ 8 * mostValence
   pub together : w .own + n * w .each ≡ w .all
 
 -- raised p and s, by those shares, come to no more than one raised number by the whole
 pub record Fits (w : Share) (p s : ℕ) : Type 0 where
   pub above : 0 < w .all
-  pub few : w .all ≤ 128
+  pub few : w .all ≤ 8 * mostValence
   pub most : w .own * p + w .each * s ≤ w .all * (2 * reach)
 
 -- what a point of raised coordinates stands for

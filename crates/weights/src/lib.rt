@@ -7,6 +7,7 @@ use vectors::Vec3;
 ghost use mathlib.Core.Path.{_≡_};
 ghost use Prim.Native.Nat.{_<_, _≤_, min, max};
 ghost use lib.ListN.{length};
+ghost use Rattle.turns.specs.Turns.{mostValence};
 ghost use Rattle.rules.specs.Position.{refining, limit, f32, beta, loopGamma};
 ghost use Rattle.weights.specs.Weights.{staged, ruleOf, carried, halfPoint, eighthPoint};
 ghost use Rattle.weights.specs.Lent.{There, AllThere, weightedPoint};
@@ -37,7 +38,7 @@ impl Rule {
     pub const EDGE_FAR: f32 = 0.125;
 
     pub fn refining(rim: bool, n: usize) -> Rule
-        requires { ⌜ n ≤ 16 ⌝ }
+        requires { ⌜ n ≤ mostValence ⌝ }
         ensures { λ r. ⌜ r ≡ carried (ruleOf refining rim n) ⌝ }
     {
         if rim {
@@ -48,7 +49,7 @@ impl Rule {
     }
 
     pub fn limit(rim: bool, n: usize) -> Rule
-        requires { ⌜ n ≤ 16 ⌝ }
+        requires { ⌜ n ≤ mostValence ⌝ }
         ensures { λ r. ⌜ r ≡ carried (ruleOf limit rim n) ⌝ }
     {
         if rim {
@@ -59,7 +60,7 @@ impl Rule {
     }
 
     pub fn new(stage: Stage, rim: bool, n: usize) -> Rule
-        requires { ⌜ n ≤ 16 ⌝ }
+        requires { ⌜ n ≤ mostValence ⌝ }
         ensures { λ r. ⌜ r ≡ carried (ruleOf (staged stage) rim n) ⌝ }
     {
         match stage {
@@ -94,14 +95,14 @@ pub fn higher(a: VertNo, b: VertNo) -> VertNo
 }
 
 fn number(n: usize) -> f32
-    requires { ⌜ n ≤ 16 ⌝ }
+    requires { ⌜ n ≤ mostValence ⌝ }
     ensures { λ r. ⌜ r ≡ f32 n ⌝ }
 {
     n as f32
 }
 
 pub fn beta(n: usize) -> f32
-    requires { ⌜ n ≤ 16 ⌝ }
+    requires { ⌜ n ≤ mostValence ⌝ }
     ensures { λ r. ⌜ r ≡ beta n ⌝ }
 {
     if n == 3 {
@@ -112,7 +113,7 @@ pub fn beta(n: usize) -> f32
 }
 
 pub fn loop_gamma(n: usize) -> f32
-    requires { ⌜ n ≤ 16 ⌝ }
+    requires { ⌜ n ≤ mostValence ⌝ }
     ensures { λ r. ⌜ r ≡ loopGamma n ⌝ }
 {
     1.0 / (number(n) + 3.0 / (8.0 * beta(n)))

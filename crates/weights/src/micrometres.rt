@@ -10,6 +10,7 @@ ghost use mathlib.Core.Path.{_≡_};
 ghost use Prim.Native.Nat.{_+_, _*_, _<_, _≤_};
 ghost use lib.ListN.{length};
 ghost use lib.Seq.{sets};
+ghost use Rattle.turns.specs.Turns.{mostValence};
 ghost use Rattle.rules.specs.Position.{refining, limit, whole};
 ghost use Rattle.rules.specs.Levels.{ends, coord, three};
 ghost use Rattle.weights.specs.Weights.{staged, ruleOf};
@@ -26,7 +27,7 @@ pub struct Share {
 impl Share {
     // b = each / all on each of k, and what is left on the vertex itself.
     fn of(k: u64, each: u64, all: u64) -> Share
-        requires { ⌜ (k ≤ 16) × ((each ≤ 3) × (k * each ≤ all)) ⌝ }
+        requires { ⌜ (k ≤ mostValence) × ((each ≤ 3) × (k * each ≤ all)) ⌝ }
         ensures { λ r. ⌜ r ≡ sharing k each all ⌝ }
     {
         Share {
@@ -37,7 +38,7 @@ impl Share {
     }
 
     fn refining(rim: bool, n: usize) -> Share
-        requires { ⌜ n ≤ 16 ⌝ }
+        requires { ⌜ n ≤ mostValence ⌝ }
         ensures { λ r. ⌜ r ≡ shareOf (ruleOf refining rim n) (weighings rim n) ⌝ }
     {
         if rim {
@@ -50,7 +51,7 @@ impl Share {
     }
 
     fn limit(rim: bool, n: usize) -> Share
-        requires { ⌜ n ≤ 16 ⌝ }
+        requires { ⌜ n ≤ mostValence ⌝ }
         ensures { λ r. ⌜ r ≡ shareOf (ruleOf limit rim n) (weighings rim n) ⌝ }
     {
         if rim {
@@ -63,7 +64,7 @@ impl Share {
     }
 
     pub fn new(stage: Stage, rim: bool, n: usize) -> Share
-        requires { ⌜ n ≤ 16 ⌝ }
+        requires { ⌜ n ≤ mostValence ⌝ }
         ensures { λ r. ⌜ r ≡ shareOf (ruleOf (staged stage) rim n) (weighings rim n) ⌝ }
     {
         match stage {

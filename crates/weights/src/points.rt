@@ -5,6 +5,7 @@ use crate::higher;
 use crate::lower;
 use crate::number;
 use faces::VertNo;
+use turns::MOST_VALENCE;
 use vectors::Vec3;
 ghost use mathlib.Core.Path.{_≡_};
 ghost use Prim.Native.Nat.{_+_, _<_, _≤_};
@@ -14,7 +15,7 @@ ghost use lib.Seq.{sets};
 ghost use Rattle.rules.specs.Position.{single};
 ghost use Rattle.rules.specs.Levels.{ends, three};
 ghost use Rattle.weights.specs.Weights.{staged};
-ghost use Rattle.weights.specs.Lent.{byRing, onRim, within, There, AllThere, listed, pointAt, sixteen, weighedPoint};
+ghost use Rattle.weights.specs.Lent.{byRing, onRim, within, There, AllThere, listed, pointAt, ringful, weighedPoint};
 
 pub fn put(p: Vec3, xs: &mut [f32], i: usize)
     requires { ⌜ i + 3 ≤ length (now xs) ⌝ }
@@ -38,12 +39,12 @@ pub fn point(xs: &[f32], v: VertNo) -> Vec3
 }
 
 // The points of a ring.
-pub fn ring_points(xs: &[f32], ring: &[u32]) -> [Vec3; 16]
+pub fn ring_points(xs: &[f32], ring: &[u32]) -> [Vec3; MOST_VALENCE]
     requires { ⌜ AllThere (now xs) (now ring) ⌝ }
-    ensures { λ r. ⌜ r ≡ sixteen (map (pointAt (now (xs .entry))) (now (ring .entry))) ⌝ }
+    ensures { λ r. ⌜ r ≡ ringful (map (pointAt (now (xs .entry))) (now (ring .entry))) ⌝ }
 {
     let o = Vec3::default();
-    let mut out = [o; 16];
+    let mut out = [o; MOST_VALENCE];
     let mut i = 0usize;
     while i < ring.len() {
         let q = point(xs, VertNo(ring[i]));

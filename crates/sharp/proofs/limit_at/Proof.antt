@@ -5,6 +5,7 @@ use mathlib.Core.Path.{sym}
 use Prim.Native.Nat.{_≤_}
 use lib.ListN.{length, replicate}
 use lib.Seq.{length-take-le}
+use Rattle.turns.specs.Turns.{mostValence}
 use Rattle.rules.specs.Position.{limit, whole}
 use Rattle.weights.specs.Lent.{lowered}
 use Rattle.levels.proofs.Moves.{start-small}
@@ -52,7 +53,7 @@ fits : (k : tie.After-sharp-ring) → k .sharp-ring .result .n ≤ length (k .sh
 fits k =
     let a = k .before .before .before .before .args in
     let r = k .before .before .before .before .pre in
-    old-fits (now (a .words)) (a .at) (a .marks) (a .nf) (a .nv) (r .0 .0) (a .u) (r .0 .1) (k .sharp-ring .result) (k .sharp-ring .ensures .0) (replicate 16 0) (k .sharp-ring .last .1 .1 .1 .1 .1 .1 .0) (omega arith) (k .sharp-ring .ensures .1)
+    old-fits (now (a .words)) (a .at) (a .marks) (a .nf) (a .nv) (r .0 .0) (a .u) (r .0 .1) (k .sharp-ring .result) (k .sharp-ring .ensures .0) (replicate mostValence 0) (k .sharp-ring .last .1 .1 .1 .1 .1 .1 .0) (omega arith) (k .sharp-ring .ensures .1)
 
 cast-t16 : tie.Need-cast-t16
 cast-t16 c = search needs
@@ -68,14 +69,14 @@ creased-requires c κs =
     let k = c .before .before in
     let a = k .before .before .before .before .args in
     let r = k .before .before .before .before .pre in
-    (old-reads (now (a .words)) (a .at) (a .marks) (a .nf) (a .nv) (r .0 .0) (a .u) (r .0 .1) (k .sharp-ring .result) (k .sharp-ring .ensures .0) (replicate 16 0) (k .sharp-ring .last .1 .1 .1 .1 .1 .1 .0) (omega arith) (k .sharp-ring .ensures .1) (r .1 .0) (r .1 .1), old-ends (now (a .words)) (a .at) (a .marks) (a .nf) (a .nv) (r .0 .0) (a .u) (r .0 .1) (k .sharp-ring .result) (k .sharp-ring .ensures .0) (replicate 16 0) (k .sharp-ring .last .1 .1 .1 .1 .1 .1 .0) (omega arith) (k .sharp-ring .ensures .1) (r .1 .0) (r .1 .1))
+    (old-reads (now (a .words)) (a .at) (a .marks) (a .nf) (a .nv) (r .0 .0) (a .u) (r .0 .1) (k .sharp-ring .result) (k .sharp-ring .ensures .0) (replicate mostValence 0) (k .sharp-ring .last .1 .1 .1 .1 .1 .1 .0) (omega arith) (k .sharp-ring .ensures .1) (r .1 .0) (r .1 .1), old-ends (now (a .words)) (a .at) (a .marks) (a .nf) (a .nv) (r .0 .0) (a .u) (r .0 .1) (k .sharp-ring .result) (k .sharp-ring .ensures .0) (replicate mostValence 0) (k .sharp-ring .last .1 .1 .1 .1 .1 .1 .0) (omega arith) (k .sharp-ring .ensures .1) (r .1 .0) (r .1 .1))
 
 returns : tie.Need-returns
 returns c =
     let k = c .before .before .before in
     let a = k .before .before .before .before .args in
     let r = k .before .before .before .before .pre in
-    (old-is (now (a .words)) (a .at) (a .marks) (a .nf) (a .nv) (r .0 .0) (a .u) (r .0 .1) (k .sharp-ring .result) (k .sharp-ring .ensures .0) (replicate 16 0) (k .sharp-ring .last .1 .1 .1 .1 .1 .1 .0) (omega arith) (k .sharp-ring .ensures .1) whole limit (now (a .xs)) (lowered (c .creased .result)) (c .creased .ensures .0), c .creased .ensures .1)
+    (old-is (now (a .words)) (a .at) (a .marks) (a .nf) (a .nv) (r .0 .0) (a .u) (r .0 .1) (k .sharp-ring .result) (k .sharp-ring .ensures .0) (replicate mostValence 0) (k .sharp-ring .last .1 .1 .1 .1 .1 .1 .0) (omega arith) (k .sharp-ring .ensures .1) whole limit (now (a .xs)) (lowered (c .creased .result)) (c .creased .ensures .0), c .creased .ensures .1)
 
 pub limit-at-spec : {M : Type 1} → statement M
 limit-at-spec =

@@ -5,6 +5,7 @@ use native.Mathlib.Omega.{arith}
 use lib.ListN.{replicate}
 use lib.Seq.{length-take-le}
 use Rattle.vectors.specs.Vectors.{cross}
+use Rattle.turns.specs.Turns.{mostValence}
 use Rattle.rules.specs.Tangents.{threeOf}
 use Rattle.tangents.specs.Normals.{normalIn}
 use Rattle.tangents.specs.declared.Tangents.{Tangents}
@@ -54,7 +55,7 @@ ring : (c : tie.After-one-ring) →
 ring c =
     let s = c .before .before .before .before .before .before in
     let a = s .args in
-    ring-left (now (a .words)) (a .at) (a .nf) (a .nv) (now (a .xs)) (s .pre .1 .0) (a .v .0) (s .pre .1 .1) (c .one-ring .result) (replicate 16 0) (c .one-ring .last .1 .1 .1 .1 .1 .0) (search needs)
+    ring-left (now (a .words)) (a .at) (a .nf) (a .nv) (now (a .xs)) (s .pre .1 .0) (a .v .0) (s .pre .1 .1) (c .one-ring .result) (replicate mostValence 0) (c .one-ring .last .1 .1 .1 .1 .1 .0) (search needs)
     (c .one-ring .ensures)
 
 array-share-prefix-vs : tie.Need-array-share-prefix-vs

@@ -1,4 +1,4 @@
--- A number up to 16 is an f32.
+-- A number up to the largest valence is an f32.
 use native.Mathlib.Omega.{arith}
 use lib.Dec.{le→leb}
 use lib.Ieee.{inFloat}

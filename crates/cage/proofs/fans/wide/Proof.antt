@@ -1,6 +1,7 @@
 use mathlib.Core.Path.{sym}
 use lib.Dec.{leb·suc-suc}
 use borrow.Author.Needs.{needs}
+use Rattle.turns.specs.Turns.{mostValence}
 use Rattle.cage.proofs.fans.wide.Statement.{statement}
 use Rattle.cage.proofs.fans.wide.Tie as tie
 
@@ -17,7 +18,7 @@ returns : tie.Need-returns
 returns c = rw (c .before .t .given .1)
 
 returns-2 : tie.Need-returns-2
-returns-2 c = rw (c .before .t2 .given .1) (sym (leb·suc-suc 16 (c .before .t2 .given .0 .0)))
+returns-2 c = rw (c .before .t2 .given .1) (sym (leb·suc-suc mostValence (c .before .t2 .given .0 .0)))
 
 returns-3 : tie.Need-returns-3
 returns-3 c = rw (c .enum-told .given .1)

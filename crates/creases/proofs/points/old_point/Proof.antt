@@ -7,6 +7,7 @@ use lib.Seq.{length-take-le}
 use borrow.Author.Needs.{needs}
 use Rattle.lists.specs.Lists.{part}
 use Rattle.lists.proofs.Stores.{length-part}
+use Rattle.turns.specs.Turns.{mostValence}
 use Rattle.rules.specs.Position.{refining, whole}
 use Rattle.weights.specs.Lent.{lowered}
 use Rattle.levels.proofs.Moves.{lent-is, start-small}
@@ -75,7 +76,7 @@ fits : (k : tie.After-sharp-ring) → k .sharp-ring .result .n ≤ length (k .sh
 fits k =
     let a = k .before .before .before .before .args in
     let r = k .before .before .before .before .pre in
-    old-fits (now (a .words)) (a .at) (a .marks) (a .nf) (a .nv) (r .0 .0) (a .u) (r .0 .1) (k .sharp-ring .result) (k .sharp-ring .ensures .0) (replicate 16 0) (k .sharp-ring .last .1 .1 .1 .1 .1 .1 .0) (omega arith) (k .sharp-ring .ensures .1)
+    old-fits (now (a .words)) (a .at) (a .marks) (a .nf) (a .nv) (r .0 .0) (a .u) (r .0 .1) (k .sharp-ring .result) (k .sharp-ring .ensures .0) (replicate mostValence 0) (k .sharp-ring .last .1 .1 .1 .1 .1 .1 .0) (omega arith) (k .sharp-ring .ensures .1)
 
 array-share-prefix-vs : tie.Need-array-share-prefix-vs
 array-share-prefix-vs c = fits (c .before .before)
@@ -91,8 +92,8 @@ creased-requires c κs =
     let o = k .sharp-ring .last .1 .1 .1 .1 .1 .1 .0 in
     let l : 3 * a .nv ≤ length (part (a .from) (3 * a .nv) (now (a .work))) = omega (arith, length-part (now (a .work)) (a .from) (3 * a .nv) (r .1 .0)) in
     rw (lent-is (now (a .work)) (a .from) (3 * a .nv)) (
-      old-reads (now (a .words)) (a .at) (a .marks) (a .nf) (a .nv) (r .0 .0) (a .u) (r .0 .1) (k .sharp-ring .result) (k .sharp-ring .ensures .0) (replicate 16 0) o (omega arith) (k .sharp-ring .ensures .1) l (r .1 .1),
-      old-ends (now (a .words)) (a .at) (a .marks) (a .nf) (a .nv) (r .0 .0) (a .u) (r .0 .1) (k .sharp-ring .result) (k .sharp-ring .ensures .0) (replicate 16 0) o (omega arith) (k .sharp-ring .ensures .1) l (r .1 .1),
+      old-reads (now (a .words)) (a .at) (a .marks) (a .nf) (a .nv) (r .0 .0) (a .u) (r .0 .1) (k .sharp-ring .result) (k .sharp-ring .ensures .0) (replicate mostValence 0) o (omega arith) (k .sharp-ring .ensures .1) l (r .1 .1),
+      old-ends (now (a .words)) (a .at) (a .marks) (a .nf) (a .nv) (r .0 .0) (a .u) (r .0 .1) (k .sharp-ring .result) (k .sharp-ring .ensures .0) (replicate mostValence 0) o (omega arith) (k .sharp-ring .ensures .1) l (r .1 .1),
     )
 
 returns : tie.Need-returns
@@ -100,7 +101,7 @@ returns c =
     let k = c .before .before .before .before in
     let a = k .before .before .before .before .args in
     let r = k .before .before .before .before .pre in (
-      old-is (now (a .words)) (a .at) (a .marks) (a .nf) (a .nv) (r .0 .0) (a .u) (r .0 .1) (k .sharp-ring .result) (k .sharp-ring .ensures .0) (replicate 16 0) (k .sharp-ring .last .1 .1 .1 .1 .1 .1 .0) (omega arith) (k .sharp-ring .ensures .1) whole refining (part (a .from) (3 * a .nv) (now (a .work)))
+      old-is (now (a .words)) (a .at) (a .marks) (a .nf) (a .nv) (r .0 .0) (a .u) (r .0 .1) (k .sharp-ring .result) (k .sharp-ring .ensures .0) (replicate mostValence 0) (k .sharp-ring .last .1 .1 .1 .1 .1 .1 .0) (omega arith) (k .sharp-ring .ensures .1) whole refining (part (a .from) (3 * a .nv) (now (a .work)))
           (lowered (c .creased .result)) (rw (lent-is (now (a .work)) (a .from) (3 * a .nv)) at (c .creased .ensures .0)),
       c .creased .ensures .1,
     )

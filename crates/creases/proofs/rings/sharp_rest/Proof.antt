@@ -8,6 +8,7 @@ use lib.Seq.{sets, length-sets}
 use borrow.Author.Needs.{needs}
 use Rattle.lists.specs.Lists.{part}
 use Rattle.lists.proofs.Stores.{sets-next}
+use Rattle.turns.specs.Turns.{mostValence}
 use Rattle.rules.specs.Mesh.{backward, corner, here, walk, passed, prevCorner}
 use Rattle.faces.specs.Words.{linksIn}
 use Rattle.faces.specs.Rings.{backs, downFrom}
@@ -31,7 +32,7 @@ sharp-back-requires : tie.Need-sharp-back-requires
 sharp-back-requires c κs = search needs
 
 -- how many there are
-sized : (k : tie.After-sharp-back) → (k .sharp-back .result .n ≤ 16) × (k .sharp-back .result .sharp ≤ 16)
+sized : (k : tie.After-sharp-back) → (k .sharp-back .result .n ≤ mostValence) × (k .sharp-back .result .sharp ≤ mostValence)
 sized k =
     let a = k .before .before .before .before .before .before .before .before .args in
     let p = k .before .before .before .before .before .before .before .before .pre in

@@ -6,6 +6,7 @@ use lib.ListN.{length, replicate}
 use lib.Seq.{length-take-le}
 use Rattle.lists.specs.Lists.{part}
 use Rattle.lists.proofs.Stores.{length-part}
+use Rattle.turns.specs.Turns.{mostValence}
 use Rattle.rules.specs.Position.{refining, whole}
 use Rattle.weights.specs.Lent.{lowered}
 use Rattle.levels.proofs.Moves.{lent-is, start-small, ring-asks, ring-fits, old-whole, moved-is}
@@ -74,7 +75,7 @@ fits : (k : tie.After-one-ring) → k .one-ring .result .n ≤ length (k .one-ri
 fits k =
     let a = k .before .before .before .before .args in
     let r = k .before .before .before .before .pre in
-    ring-fits (now (a .words)) (a .at) (a .nf) (a .nv) (r .0 .0) (a .u) (r .0 .1) (k .one-ring .result) (k .one-ring .ensures .0) (replicate 16 0) (k .one-ring .last .1 .1 .1 .1 .1 .0) (omega arith) (k .one-ring .ensures .1)
+    ring-fits (now (a .words)) (a .at) (a .nf) (a .nv) (r .0 .0) (a .u) (r .0 .1) (k .one-ring .result) (k .one-ring .ensures .0) (replicate mostValence 0) (k .one-ring .last .1 .1 .1 .1 .1 .0) (omega arith) (k .one-ring .ensures .1)
 
 array-share-prefix-vs : tie.Need-array-share-prefix-vs
 array-share-prefix-vs c = fits (c .before .before)
@@ -89,14 +90,14 @@ vertex-requires c κs =
     let r = k .before .before .before .before .pre in
     let l : 3 * a .nv ≤ length (part (a .from) (3 * a .nv) (now (a .work))) = omega (arith, length-part (now (a .work)) (a .from) (3 * a .nv) (r .1 .0)) in
     rw (lent-is (now (a .work)) (a .from) (3 * a .nv))
-    (old-whole (now (a .words)) (a .at) (a .nf) (a .nv) (r .0 .0) (a .u) (r .0 .1) (k .one-ring .result) (k .one-ring .ensures .0) (replicate 16 0) (k .one-ring .last .1 .1 .1 .1 .1 .0) (omega arith) (k .one-ring .ensures .1) l (r .1 .1))
+    (old-whole (now (a .words)) (a .at) (a .nf) (a .nv) (r .0 .0) (a .u) (r .0 .1) (k .one-ring .result) (k .one-ring .ensures .0) (replicate mostValence 0) (k .one-ring .last .1 .1 .1 .1 .1 .0) (omega arith) (k .one-ring .ensures .1) l (r .1 .1))
 
 returns : tie.Need-returns
 returns c =
     let k = c .before .before .before .before in
     let a = k .before .before .before .before .args in
     let r = k .before .before .before .before .pre in (
-      moved-is (now (a .words)) (a .at) (a .nf) (a .nv) (r .0 .0) (a .u) (r .0 .1) (k .one-ring .result) (k .one-ring .ensures .0) (replicate 16 0) (k .one-ring .last .1 .1 .1 .1 .1 .0) (omega arith) (k .one-ring .ensures .1) whole refining (part (a .from) (3 * a .nv) (now (a .work)))
+      moved-is (now (a .words)) (a .at) (a .nf) (a .nv) (r .0 .0) (a .u) (r .0 .1) (k .one-ring .result) (k .one-ring .ensures .0) (replicate mostValence 0) (k .one-ring .last .1 .1 .1 .1 .1 .0) (omega arith) (k .one-ring .ensures .1) whole refining (part (a .from) (3 * a .nv) (now (a .work)))
           (lowered (c .vertex .result)) (rw (lent-is (now (a .work)) (a .from) (3 * a .nv)) at (c .vertex .ensures .0)),
       c .vertex .ensures .1,
     )

@@ -9,6 +9,7 @@ use mathlib.Core.Path.{refl}
 use mathlib.Core.List.{map}
 use lib.ListN.{take}
 use Rattle.whole.specs.Fraction.{ofWhole}
+use Rattle.turns.specs.Turns.{mostValence}
 use Rattle.rules.specs.Position.{exact}
 use Rattle.rules.specs.Levels.{three}
 use Rattle.weights.specs.Weights.{staged}
@@ -51,7 +52,7 @@ one-ring-requires c κs = let s = c .before .before .before in (ring-asks (now (
 fits : (k : tie.After-one-ring) → k .one-ring .result .n ≤ length (k .one-ring .last .1 .1 .1 .1 .1 .0)
 fits k =
     let s = k .before .before .before .before in
-    ring-fits (now (s .args .words)) (s .args .at) (s .args .nf) (s .args .nv) (s .pre .0 .0) (s .args .u) (s .pre .0 .1) (k .one-ring .result) (k .one-ring .ensures .0) (replicate 16 0) (k .one-ring .last .1 .1 .1 .1 .1 .0) (omega arith) (k .one-ring .ensures .1)
+    ring-fits (now (s .args .words)) (s .args .at) (s .args .nf) (s .args .nv) (s .pre .0 .0) (s .args .u) (s .pre .0 .1) (k .one-ring .result) (k .one-ring .ensures .0) (replicate mostValence 0) (k .one-ring .last .1 .1 .1 .1 .1 .0) (omega arith) (k .one-ring .ensures .1)
 
 array-share-prefix-vs : tie.Need-array-share-prefix-vs
 array-share-prefix-vs c = fits (c .before)
@@ -63,7 +64,7 @@ ring-over-requires : tie.Need-ring-over-requires
 ring-over-requires c κs =
     let k = c .before .before in
     let s = k .before .before .before .before in
-    (s .pre .1 .1, old-whole (now (s .args .words)) (s .args .at) (s .args .nf) (s .args .nv) (s .pre .0 .0) (s .args .u) (s .pre .0 .1) (k .one-ring .result) (k .one-ring .ensures .0) (replicate 16 0) (k .one-ring .last .1 .1 .1 .1 .1 .0) (omega arith) (k .one-ring .ensures .1) (s .pre .1 .0) (s .pre .1 .1))
+    (s .pre .1 .1, old-whole (now (s .args .words)) (s .args .at) (s .args .nf) (s .args .nv) (s .pre .0 .0) (s .args .u) (s .pre .0 .1) (k .one-ring .result) (k .one-ring .ensures .0) (replicate mostValence 0) (k .one-ring .last .1 .1 .1 .1 .1 .0) (omega arith) (k .one-ring .ensures .1) (s .pre .1 .0) (s .pre .1 .1))
 
 returns : tie.Need-returns
 returns c =
@@ -73,7 +74,7 @@ returns c =
     let x = k .one-ring .result in
     let f = byRing exact (staged (s .args .stage)) (map ofWhole (now (s .args .xs))) (s .args .u) (x .rim) (take (x .n) o) in (
       stands-in (c .ring-over .result) f _
-          (moved-is (now (s .args .words)) (s .args .at) (s .args .nf) (s .args .nv) (s .pre .0 .0) (s .args .u) (s .pre .0 .1) x (k .one-ring .ensures .0) (replicate 16 0) o (omega arith) (k .one-ring .ensures .1) exact (staged (s .args .stage)) (map ofWhole (now (s .args .xs))) (three exact f) refl)
+          (moved-is (now (s .args .words)) (s .args .at) (s .args .nf) (s .args .nv) (s .pre .0 .0) (s .args .u) (s .pre .0 .1) x (k .one-ring .ensures .0) (replicate mostValence 0) o (omega arith) (k .one-ring .ensures .1) exact (staged (s .args .stage)) (map ofWhole (now (s .args .xs))) (three exact f) refl)
           (c .ring-over .ensures .0),
       c .ring-over .ensures .1,
     )
