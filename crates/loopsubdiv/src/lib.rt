@@ -30,7 +30,7 @@ pub fn judge_whole(
     words: usize,
     work: usize,
 ) -> Outcome
-    ensures { λ r. ⌜ r ≡ sharpOutcome whole (wholeRooms positions out words work) levels (now (sharp .entry)) (now (indices .entry)) (now (coords .entry)) ⌝ }
+    ensures { λ r. ⌜ r ≡ sharpOutcome whole (wholeRooms positions out words work) levels (given sharp) (given indices) (given coords) ⌝ }
 {
     match cage::judge_sharp(levels, indices, coords, sharp) {
         Outcome::Refused(x) => Outcome::Refused(x),

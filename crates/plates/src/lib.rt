@@ -5,7 +5,7 @@ ghost use Rattle.writer.specs.Writing.{writtenAnswer, WriteTold};
 ghost use Rattle.alphabet.specs.Sheets.{SheetsCall};
 ghost use Rattle.outlines.specs.Loops.{tracedAnswer, OutlineTold};
 ghost use Rattle.obj.specs.Calls.{textAnswer, TextTold, listsAnswer, ListsTold};
-ghost use Rattle.station.specs.Acceptance.{StationTold};
+ghost use Rattle.station.specs.Acceptance.{plate, StationTold};
 ghost use Rattle.station.specs.Acceptance.{answer as verdictAnswer};
 use obj::Lists;
 use obj::Text;
@@ -223,7 +223,7 @@ pub extern "C" fn plates_accept(
     work: &mut [i32],
     told: &mut [u32; 6],
 )
-    ensures { λ r. ⌜ StationTold tolerance levels (given indices) (given coords) (given theirs) (given claimed) (buffers positions out words work) (now (told .exit)) ⌝ }
+    ensures { λ r. ⌜ StationTold tolerance levels (plate indices coords) (plate theirs claimed) (buffers positions out words work) (now (told .exit)) ⌝ }
 {
     tell_verdict(
         station::accept(

@@ -21,7 +21,7 @@ use Rattle.rules.specs.declared.Refusal.{Refusal}
 use Rattle.rules.specs.declared.Counts.{Counts}
 use Rattle.rules.specs.declared.Outcome.{Outcome}
 use Rattle.rules.specs.declared.Outcome.the-variants as outcomes
-use Rattle.station.specs.Acceptance.{sameFace, Passes, farAt, faceAt, held, stationOutcome, judged, verdict, answer, StationCall, StationTold}
+use Rattle.station.specs.Acceptance.{sameFace, Passes, farAt, faceAt, held, stationOutcome, judged, verdict, answer, StationCall, Plate, StationTold}
 use Rattle.station.specs.declared.Fault.the-variants.{Counts as CountsDiffer, Face, Far}
 use Rattle.station.specs.declared.Verdict.{Verdict}
 use Rattle.station.specs.declared.Verdict.the-variants.{Yes, No, Refused}
@@ -66,11 +66,6 @@ module _ (t l : ℕ) (fs : List ℕ) (xs : List ℤ) (cs : List ℕ) (ys : List 
     c .answer ∙ ap {B = Verdict} (λ (x : Buffers ℤ). verdict (wholeRoom x) t l fs xs cs ys) lent ∙ sym (k .answer),
     one-outcome whole (final whole (last whole l fs xs)) asked b d (asked (b .old)) (asked (d .old)) lent (c .call) (k .call) .1,
   )
-
-  pub one-outcome-of-a-claim-told : (b d : Lent (Buffers ℤ)) (told also : List ℕ) → b .old ≡ d .old → StationTold t l fs xs cs ys b told → StationTold t l fs xs cs ys d also → told ≡ also × b .new ≡ d .new
-  one-outcome-of-a-claim-told b d told also lent c k =
-      let o = one-outcome-of-a-claim b d (c .answered) (k .answered) lent (c .kept) (k .kept) in
-      (c .six ∙ ap {B = List ℕ} (λ v. answer v) (o .0) ∙ sym (k .six), o .1)
 
   pub record ClaimAnswered (old : Buffers ℤ) : Type 0 where
     pub verdict : Verdict
@@ -160,6 +155,13 @@ module _ (t l : ℕ) (fs : List ℕ) (xs : List ℤ) (cs : List ℕ) (ys : List 
 
     pub first-far-coordinate : (i k : ℕ) → StationCall t l fs xs cs ys b (No (Far i k)) → FirstFar t ours limits cs ys i k
     first-far-coordinate i k c = far-first t ours limits cs ys i k (sym (as-the-whole-call (No (Far i k)) (far-is-none i k) c .verdict))
+
+-- for C
+pub one-outcome-of-a-claim-told : (t l : ℕ) (cage claim : Plate) (b d : Lent (Buffers ℤ)) (told also : List ℕ) → b .old ≡ d .old
+    → StationTold t l cage claim b told → StationTold t l cage claim d also → told ≡ also × b .new ≡ d .new
+one-outcome-of-a-claim-told t l cage claim b d told also lent c k =
+    let o = one-outcome-of-a-claim t l (cage .faces) (cage .coords) (claim .faces) (claim .coords) b d (c .answered) (k .answered) lent (c .kept) (k .kept) in
+    (c .six ∙ ap {B = List ℕ} (λ v. answer v) (o .0) ∙ sym (k .six), o .1)
 
 -- "passes at tolerance 0 only where the exact value is whole"
 pub exact-at-0-of-the-call : (l : ℕ) (fs : List ℕ) (xs : List ℤ) (cs : List ℕ) (ys : List ℤ) (b : Lent (Buffers ℤ)) → StationCall 0 l fs xs cs ys b Yes

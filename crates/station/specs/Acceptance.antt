@@ -7,6 +7,8 @@ use mathlib.Core.Option.{Option, none, some}
 use lib.Dec.{T, eqb, ltb}
 use lib.ListN.{length, getD}
 use lib.IntN.{ℤ, pos, natAbs, _-ℤ_, _*ℤ_}
+use denote.Ref.{RefT}
+use denote.Triple.Both.{Both}
 use Rattle.lists.specs.Lists.{pick, lowest}
 use Rattle.whole.specs.Fraction.{Fraction, ofWhole, Within}
 use Rattle.rules.specs.Mesh.{corner}
@@ -14,7 +16,7 @@ use Rattle.rules.specs.Position.{whole}
 use Rattle.rules.specs.Levels.{last, exactLimits}
 use Rattle.rules.specs.Refusals.{check, when, _orElse_, Room, mostLevels}
 use Rattle.rules.specs.Answers.{outcome, unless}
-use Rattle.rules.specs.Calls.{Lent, Buffers, wholeRoom, Call, final}
+use Rattle.rules.specs.Calls.{given, Lent, Buffers, wholeRoom, Call, final}
 use Rattle.rules.specs.declared.Counts.{Counts}
 use Rattle.rules.specs.declared.Outcome.{Outcome}
 use Rattle.rules.specs.declared.Outcome.the-variants as outcomes
@@ -101,7 +103,15 @@ answer Yes = 0 ∷ 0 ∷ 1 ∷ 0 ∷ 0 ∷ 0 ∷ []
 answer (No x) = 0 ∷ 0 ∷ 0 ∷ faultNumbers x
 answer (Refused r) = r .number ∷ r .place ∷ 0 ∷ 0 ∷ 0 ∷ 0 ∷ []
 
-pub record StationTold (t l : ℕ) (fs : List ℕ) (xs : List ℤ) (cs : List ℕ) (ys : List ℤ) (b : Lent (Buffers ℤ)) (told : List ℕ) : Type 0 where
+-- a face list and its coordinates as they are lent: of the cage, and of the claim
+pub record Plate : Type 0 where
+  pub faces : List ℕ
+  pub coords : List ℤ
+
+abbrev pub plate : {X Y : Type 0} → Both (RefT (List ℕ)) X → Both (RefT (List ℤ)) Y → Plate
+plate fs xs = record { faces = given fs; coords = given xs }
+
+pub record StationTold (t l : ℕ) (cage claim : Plate) (b : Lent (Buffers ℤ)) (told : List ℕ) : Type 0 where
   pub answered : Verdict
-  pub kept : StationCall t l fs xs cs ys b answered
+  pub kept : StationCall t l (cage .faces) (cage .coords) (claim .faces) (claim .coords) b answered
   pub six : told ≡ answer answered
