@@ -2,7 +2,7 @@
    how many coordinates, and those, all 32-bit words. Writes a line for each case: output faces, bytes of work room lent to the largest cage, and the nanoseconds of the
    fastest run over all its cages: our whole call, the yardstick's, our f32 call, the yardstick's, our whole call with no positions lent, which makes every check and
    then refuses, and, where RUST is defined, the mended Rust. Ends with status 1 where two of them disagree (but for normals: the yardstick and the Rust have a library's
-   sine). The argument is the number of repetitions; in each, all take their turn. */
+   sine). The argument is the number of repetitions; in each, all take their turn. With a second argument only our whole call and our plain one are timed, and they must agree too. */
 #include <stdint.h>
 #include <stdio.h>
 #include <stdlib.h>
@@ -51,6 +51,10 @@ static void our_whole(const cage *c) {
     plates_loop_subdivide_whole(c->levels, c->indices, c->n, c->coords, c->m, no_sides, 0, ours, 3 * V, our_faces, 3 * F, words, 16 * F + 8 * V, work, 6 * V, told);
 }
 
+static void our_plain(const cage *c) {
+    plates_loop_subdivide_plain(c->levels, c->indices, c->n, c->coords, c->m, no_sides, 0, ours, 3 * V, our_faces, 3 * F, words, 16 * F + 8 * V, work, 6 * V, told);
+}
+
 static void their_whole(const cage *c) { result = limit_run(1, c->levels, c->m / 3, c->coords, c->n / 3, c->indices, theirs, 0, their_faces, words, work); }
 
 static void our_single(const cage *c) {
@@ -89,7 +93,8 @@ static void rust_begin(cage *c) { (void)c; }
 static void rust_end(cage *c) { (void)c; }
 #endif
 
-static void (*const runs[])(const cage *) = {
+typedef void run(const cage *);
+static run *const runs[] = {
     our_whole,
     their_whole,
     our_single,
@@ -100,6 +105,7 @@ static void (*const runs[])(const cage *) = {
 #endif
 };
 enum { RUNS = sizeof runs / sizeof *runs };
+static run *const plain_runs[] = {our_whole, our_plain};
 
 static void agree(const void *mine, const void *its) {
     if (told[0] || result.no || told[2] != result.vertices || told[3] != result.faces || told[4] != result.rim || memcmp(mine, its, 12 * (size_t)told[2]) ||
@@ -110,7 +116,8 @@ static void agree(const void *mine, const void *its) {
 }
 
 int main(int argc, char **argv) {
-    int repetitions = argc > 1 ? atoi(argv[1]) : 9;
+    int repetitions = argc > 1 ? atoi(argv[1]) : 9, plain = argc > 2, timed = plain ? 2 : RUNS;
+    run *const *taking_turns = plain ? plain_runs : runs;
     uint32_t count;
     while (fread(&count, 4, 1, stdin) == 1) {
         uint64_t faces = 0, lent = 0, best[RUNS];
@@ -129,6 +136,10 @@ int main(int argc, char **argv) {
             our_whole(c);
             their_whole(c);
             agree(ours, theirs);
+            if (plain) {
+                our_plain(c);
+                agree(ours, theirs);
+            }
             our_single(c);
             their_single(c);
             agree(our_points, their_points);
@@ -141,15 +152,15 @@ int main(int argc, char **argv) {
         for (int r = 0; r < RUNS; r++)
             best[r] = UINT64_MAX;
         for (int n = 0; n < repetitions; n++)
-            for (int r = 0; r < RUNS; r++) {
+            for (int r = 0; r < timed; r++) {
                 uint64_t began = nanoseconds();
                 for (uint32_t i = 0; i < count; i++)
-                    runs[r](cages + i);
+                    taking_turns[r](cages + i);
                 uint64_t took = nanoseconds() - began;
                 best[r] = took < best[r] ? took : best[r];
             }
         printf("%llu %llu", (unsigned long long)faces, (unsigned long long)lent);
-        for (int r = 0; r < RUNS; r++)
+        for (int r = 0; r < timed; r++)
             printf(" %llu", (unsigned long long)best[r]);
         printf("\n");
         for (uint32_t i = 0; i < count; i++) {

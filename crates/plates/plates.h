@@ -24,7 +24,7 @@ extern "C" {
 #endif
 
 /* Counts up when something in this file changes, or what a call answers. */
-#define PLATES_VERSION 10
+#define PLATES_VERSION 11
 
 /* The stack that a call may take, in bytes: give a thread as much, and what its own functions take besides. Where a system gives a thread 128 KB, the calls on lists run in it;
    a call on sheets holds the sheet's lists too, the one for rim loops tables of the cage, that on a claim the cage's words. */
@@ -74,6 +74,19 @@ enum plates_refusal {
 /* Whole micrometres, -1,000,000,000 to 1,000,000,000. `sharp` lists sides whose edges stay sharp (docs/RULES.md): side 3 f + k of face f runs from its corner k to the next.
    An edge may be named from either of its faces or from both, in any order and as often as one likes; an edge on the rim may not. At sharp_length 0 no edge is sharp. */
 void plates_loop_subdivide_whole(uint32_t levels,
+                                 const uint32_t *indices, size_t indices_length,
+                                 const int32_t *coords, size_t coords_length,
+                                 const uint32_t *sharp, size_t sharp_length,
+                                 int32_t *positions, size_t positions_length,
+                                 uint32_t *out, size_t out_length,
+                                 uint32_t *words, size_t words_length,
+                                 int32_t *work, size_t work_length,
+                                 uint32_t told[5]);
+
+/* The same call by the plain engine, which keeps no links between faces: it finds the other face of an edge, the fan of a vertex and the number of an edge by looking through the
+   face list, each time anew. Lent the same, it tells the same five numbers and leaves the same in every buffer, as is proved. For comparing: its time grows with the square of the
+   last level's faces (docs/BENCH.md). */
+void plates_loop_subdivide_plain(uint32_t levels,
                                  const uint32_t *indices, size_t indices_length,
                                  const int32_t *coords, size_t coords_length,
                                  const uint32_t *sharp, size_t sharp_length,

@@ -27,6 +27,17 @@ extern "C" {
         work: *mut i32, work_len: usize,
         told: *mut u32,
     );
+    fn plates_loop_subdivide_plain(
+        levels: u32,
+        indices: *const u32, indices_len: usize,
+        coords: *const i32, coords_len: usize,
+        sharp: *const u32, sharp_len: usize,
+        positions: *mut i32, positions_len: usize,
+        out: *mut u32, out_len: usize,
+        words: *mut u32, words_len: usize,
+        work: *mut i32, work_len: usize,
+        told: *mut u32,
+    );
     fn plates_write_sheet(
         levels: u32,
         indices: *const u32, indices_len: usize,
@@ -84,9 +95,20 @@ fn threes<T: Copy>(list: &[T]) -> Vec<[T; 3]> {
     list.chunks_exact(3).map(|c| [c[0], c[1], c[2]]).collect()
 }
 
-/// Whole micrometres, with the edges of the sides in `sharp` (3 face + side) sharp. Every list of numbers gets a mesh or a refusal; nothing has to be checked beforehand. A thread of 112 KB of stack does
-/// (crates/plates/plates.h), and one that the standard library makes has 2 MB.
-pub fn loop_subdivide_whole(levels: u32, indices: &[u32], coords: &[i32], sharp: &[u32]) -> Result<Mesh, Refusal> {
+/// Of either engine: levels, corners, coordinates, sharp sides, positions, faces, work words, work coordinates, each but the first with its length; and the five numbers.
+type WholeCall = unsafe extern "C" fn(
+    u32,
+    *const u32, usize,
+    *const i32, usize,
+    *const u32, usize,
+    *mut i32, usize,
+    *mut u32, usize,
+    *mut u32, usize,
+    *mut i32, usize,
+    *mut u32,
+);
+
+fn subdivide(call: WholeCall, levels: u32, indices: &[u32], coords: &[i32], sharp: &[u32]) -> Result<Mesh, Refusal> {
     let mut positions = vec![0i32; 3 * MOST];
     let mut out = vec![0u32; 3 * MOST];
     let mut words = vec![0u32; 24 * MOST];
@@ -94,7 +116,7 @@ pub fn loop_subdivide_whole(levels: u32, indices: &[u32], coords: &[i32], sharp:
     let mut told = [0u32; 5];
     // SAFETY: each pointer goes with the length of the slice it comes from, and the call keeps to these lengths (its promise has no `requires`).
     unsafe {
-        plates_loop_subdivide_whole(
+        call(
             levels,
             indices.as_ptr(), indices.len(),
             coords.as_ptr(), coords.len(),
@@ -113,6 +135,17 @@ pub fn loop_subdivide_whole(levels: u32, indices: &[u32], coords: &[i32], sharp:
     positions.truncate(3 * vertices as usize);
     out.truncate(3 * faces as usize);
     Ok(Mesh { positions: threes(&positions), faces: threes(&out), rim_sides })
+}
+
+/// Whole micrometres, with the edges of the sides in `sharp` (3 face + side) sharp. Every list of numbers gets a mesh or a refusal; nothing has to be checked beforehand. A thread of 112 KB of stack does
+/// (crates/plates/plates.h), and one that the standard library makes has 2 MB.
+pub fn loop_subdivide_whole(levels: u32, indices: &[u32], coords: &[i32], sharp: &[u32]) -> Result<Mesh, Refusal> {
+    subdivide(plates_loop_subdivide_whole, levels, indices, coords, sharp)
+}
+
+/// The same answers by the plain engine, which keeps no links between faces. Its time grows with the square of the faces: it is for comparing.
+pub fn loop_subdivide_plain(levels: u32, indices: &[u32], coords: &[i32], sharp: &[u32]) -> Result<Mesh, Refusal> {
+    subdivide(plates_loop_subdivide_plain, levels, indices, coords, sharp)
 }
 
 /// The sheet of a cage, or why there is none. Every list of numbers gets one or the other.
@@ -298,10 +331,17 @@ fn main() {
             }),
             Err(r) => println!("refused {} at {}", r.number, r.place),
         }
-    }    for (corners, broken) in [([0, 1, 2], false), ([0, 1, 3], false), ([0, 1, 2], true)] {
+    }
+    for (corners, broken) in [([0, 1, 2], false), ([0, 1, 3], false), ([0, 1, 2], true)] {
         match write_obj(&triangle, &corners).and_then(|text| read_obj(&text[..text.len() - broken as usize])) {
             Ok((coords, corners)) => println!("OBJ text of {} coordinates and {} corners, read as it was: {}", coords.len(), corners.len(), coords == triangle && corners == [0, 1, 2]),
             Err(r) => println!("refused {} at {}", r.number, r.place),
         }
     }
+    let folded = [0, 1, 2, 0, 2, 3];
+    let alike = [(2, vec![]), (2, vec![2]), (0, vec![4])].iter().all(|(levels, sharp)| {
+        let points = [0, 0, 0, 8, 0, 0, 8, 8, 0, 0, 8, 4];
+        loop_subdivide_plain(*levels, &folded, &points, sharp) == loop_subdivide_whole(*levels, &folded, &points, sharp)
+    });
+    println!("the plain engine answers as the linked one: {alike}");
 }

@@ -30,7 +30,7 @@ use Rattle.cage.proofs.Across.{link-coded}
 
 -- ---- starts
 
-last-append : (d x : ℕ) (l : List ℕ) → lastOf d (l ++ (x ∷ [])) ≡ x
+pub last-append : (d x : ℕ) (l : List ℕ) → lastOf d (l ++ (x ∷ [])) ≡ x
 last-append d x [] = refl
 last-append d x (y ∷ l) = last-append y x l
 

@@ -32,21 +32,23 @@ use Rattle.cage.proofs.Sizes.{counts-of}
 
 -- ---- one listed side
 
-module _ (fs ws : List ℕ) (p : Linked fs ws) (s : ℕ) where
+module _ (fs : List ℕ) (s : ℕ) where
   pub far : length fs ≤ s → true ≡ unlinked (links fs) s
   far h = rw (le-leb (length (links fs)) s (rw (length-links fs) h))
 
-  word-at : s < length fs → getD ws s 0 ≡ coded (getD (links fs) s none)
-  word-at h =
-      sym (getD-take (length fs) ws s 0 h) ∙ ap (λ (l : List ℕ). getD l s 0) (p .words)
-      ∙ getD-map coded (links fs) s none 0 (rw (length-links fs) h)
+  pub near : s < length fs → not (found (getD (links fs) s none)) ≡ unlinked (links fs) s
+  near h = rw (lt-leb (length (links fs)) s (rw (length-links fs) h))
 
-  zero-word : (o : Option ℕ) → eqb (coded o) 0 ≡ not (found o)
-  zero-word none = refl
-  zero-word (some t) = ne-eqb (suc t) 0 (λ e. omega arith)
+pub zero-word : (o : Option ℕ) → eqb (coded o) 0 ≡ not (found o)
+zero-word none = refl
+zero-word (some t) = ne-eqb (suc t) 0 (λ e. omega arith)
 
-  pub near : s < length fs → eqb (getD ws s 0) 0 ≡ unlinked (links fs) s
-  near h = rw (lt-leb (length (links fs)) s (rw (length-links fs) h)) (ap (λ (x : ℕ). eqb x 0) (word-at h) ∙ zero-word (getD (links fs) s none))
+pub zero-at : (fs ws : List ℕ) → Linked fs ws → (s : ℕ) → s < length fs → eqb (getD ws s 0) 0 ≡ not (found (getD (links fs) s none))
+zero-at fs ws p s h =
+    ap (λ (x : ℕ). eqb x 0)
+    (sym (getD-take (length fs) ws s 0 h) ∙ ap (λ (l : List ℕ). getD l s 0) (p .words)
+    ∙ getD-map coded (links fs) s none 0 (rw (length-links fs) h))
+    ∙ zero-word (getD (links fs) s none)
 
 -- ---- the search
 

@@ -19,7 +19,7 @@ use Rattle.rules.proofs.Checks.{Shape, check-none, apart-side, unique-sides, un
 use Rattle.rules.proofs.Refine.{Good}
 use Rattle.cage.specs.Verdicts.{verdictOf}
 use Rattle.cage.specs.Chains.{Faces, Below, Apart, Once}
-use Rattle.cage.specs.Sizes.{fromNine, fromSeven, fromFive, Listed}
+use Rattle.cage.specs.Sizes.{judged, fromNine, fromSeven, fromFive, Listed}
 use Rattle.cage.specs.declared.Check.the-variants.{Pass, No}
 use Rattle.cage.proofs.Search.{passes}
 
@@ -45,7 +45,7 @@ or-assoc : (a b c : Option Refusal) → (a orElse b) orElse c ≡ a orElse (b or
 or-assoc none b c = refl
 or-assoc (some x) b c = refl
 
-pub five-first : (l v : ℕ) (sh fs : List ℕ) → fromFive l v sh fs ≡ check 5 (find (λ u. leb v u) fs) orElse (check 6 (lowest (equalCorners fs) (length fs / 3)) orElse fromSeven l v sh fs)
+five-first : (l v : ℕ) (sh fs : List ℕ) → fromFive l v sh fs ≡ check 5 (find (λ u. leb v u) fs) orElse (check 6 (lowest (equalCorners fs) (length fs / 3)) orElse fromSeven l v sh fs)
 unfolding listRefusal
 five-first l v sh fs =
     let c5 = check 5 (find (λ u. leb v u) fs) in
@@ -56,6 +56,11 @@ five-first l v sh fs =
     or-assoc c5 (c6 orElse c7 orElse c8) r
     ∙ ap (λ (x : Option Refusal). c5 orElse x) (or-assoc c6 (c7 orElse c8) r)
     ∙ ap (λ (x : Option Refusal). c5 orElse (c6 orElse x)) (or-assoc c7 c8 r)
+
+pub judged-five : (l v : ℕ) (sh fs : List ℕ) →
+    judged (fromFive l v sh fs) l v fs
+    ≡ judged (check 5 (find (λ u. leb v u) fs) orElse (check 6 (lowest (equalCorners fs) (length fs / 3)) orElse fromSeven l v sh fs)) l v fs
+judged-five l v sh fs = ap (λ (r : Option Refusal). judged r l v fs) (five-first l v sh fs)
 
 -- ---- what each leaves
 

@@ -58,7 +58,7 @@ fn turn_at(indices: &[u32], heads: &[u16], words: &[u32], u: usize) -> Turn
     faces::turn_round(words, 0, indices.len() / 3, s)
 }
 
-fn short(t: Turn, n: u16) -> bool
+pub fn short(t: Turn, n: u16) -> bool
     ensures { λ r. ⌜ r ≡ shortOf t n ⌝ }
 {
     match t {
@@ -68,7 +68,7 @@ fn short(t: Turn, n: u16) -> bool
     }
 }
 
-fn wide(t: Turn) -> bool
+pub fn wide(t: Turn) -> bool
     ensures { λ r. ⌜ r ≡ ltb mostValence (valenceOf t) ⌝ }
 {
     match t {
@@ -79,7 +79,7 @@ fn wide(t: Turn) -> bool
 }
 
 // What was seen first, if there is something at u too; v stands for nothing seen.
-fn first(seen: usize, v: usize, here: bool, u: usize) -> usize
+pub fn first(seen: usize, v: usize, here: bool, u: usize) -> usize
     ensures { λ r. ⌜ r ≡ pick (here && eqb seen v) u seen ⌝ }
 {
     if here {

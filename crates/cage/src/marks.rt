@@ -11,7 +11,7 @@ use super::Check;
 use super::no;
 
 // A place has 32 bits and the list has no limit: an index past the largest is told as the largest.
-fn place(i: usize) -> u32
+pub fn place(i: usize) -> u32
     ensures { λ r. ⌜ r ≡ min i 4294967295 ⌝ }
 {
     if i < 4294967295 { i as u32 } else { 4294967295 }

@@ -1,16 +1,17 @@
 -- Request 6: the sharp edges of a rim vertex, from those that the two arms of the passage round it meet. Assumes nothing.
 use mathlib.Core.Path.{_≡_, refl, sym, ap, _∙_}
-use Prim.Native.Nat.{ℕ, suc, _+_, _-_, _*_, _<_}
+use Prim.Native.Nat.{ℕ, suc, _+_, _-_, _*_, _≤_, _<_}
 use native.Mathlib.Omega.{arith}
 use mathlib.Core.Bool.{Bool, true, false}
 use mathlib.Core.List.{List, _∷_, _++_}
 use mathlib.Core.Option.{Option, none, some}
 use lib.Dec.{eqb}
 use lib.ListN.{length, getD, take, length-map}
-use lib.Seq.{take-all}
+use lib.Seq.{sets, take-all}
 use Rattle.lists.specs.Lists.{lastOf, part, pick, bit, keep, tally}
 use Rattle.lists.proofs.Places.{last-at, length-keep}
 use Rattle.lists.proofs.Counting.{tally-append}
+use Rattle.lists.proofs.Stores.{getD-within}
 use Rattle.rules.specs.Mesh.{onward, backward, corner, home, off, here, ended, walk, passed, stopOf, stepTo, through, nextCorner, prevCorner, Fan, rim, fan, ring}
 use Rattle.rules.specs.Sharp.{sharp, creases}
 use Rattle.rules.proofs.Walks.{trail}
@@ -22,9 +23,28 @@ use Rattle.faces.proofs.Trails.{next-trail}
 use Rattle.faces.proofs.Retrace.{came-by, off-last}
 use Rattle.faces.proofs.Passage.{passes, as-rim, again, begins, whole-fan, told}
 use Rattle.creases.specs.Rings.{comes}
+use Rattle.creases.specs.declared.rings.Met.{Met}
+use Rattle.creases.specs.declared.rings.SharpRing.{SharpRing}
 use Rattle.creases.proofs.Creases.{tally-take, tally-down}
 
--- how many sharp and rim edges a rim vertex has, and the far ends of the first two
+-- ---- the answer, part by part
+
+abbrev pub ringBy : ℕ → Met → SharpRing
+ringBy n m = record { n = n; creases = m .n; a = m .a; b = m .b }
+
+abbrev ring4 : ℕ → ℕ → ℕ → ℕ → SharpRing
+ring4 n k a b = record { n = n; creases = k; a = a; b = b }
+
+pub same-ring : (x : SharpRing) (n k a b : ℕ) → x .n ≡ n → x .creases ≡ k → x .a ≡ a → x .b ≡ b → x ≡ ring4 n k a b
+same-ring x n k a b e f g h =
+    ap (λ (z : ℕ). ring4 z (x .creases) (x .a) (x .b)) e ∙ ap (λ (z : ℕ). ring4 n z (x .a) (x .b)) f ∙ ap (λ (z : ℕ). ring4 n k z (x .b)) g ∙ ap (λ (z : ℕ). ring4 n k a z) h
+
+-- an entry of what was stored
+pub stored-at : (o xs : List ℕ) (i : ℕ) → i < length xs → length xs ≤ length o → getD (sets o 0 xs) i 0 ≡ getD xs i 0
+stored-at o xs i h k = let z : 0 + i ≡ i = omega arith in rw z at (getD-within xs o 0 i 0 h (omega arith))
+
+-- ---- how many sharp and rim edges a rim vertex has, and the far ends of the first two
+
 pub record Creased (w : List ℕ) (corners links n s k e : ℕ) (ms : List Bool) : Type 0 where
   pub number :
       length (creases (part corners (3 * n) w) ms (fan (linksIn w links (3 * n)) s)) ≡
@@ -42,16 +62,16 @@ off-none h (some x) e = go (eqb (onward x) h) e
     go true q = absurd (let z : _≡_ {A = ℕ} 0 1 = cc in omega arith)
     go false q = absurd (let z : _≡_ {A = ℕ} 0 1 = cc in omega arith)
 
-creases-long : (fs : List ℕ) (ms : List Bool) (cs : List ℕ) → length (creases fs ms (rim cs)) ≡ 2 + tally (comes ms) cs
+pub creases-long : (fs : List ℕ) (ms : List Bool) (cs : List ℕ) → length (creases fs ms (rim cs)) ≡ 2 + tally (comes ms) cs
 creases-long fs ms cs =
     let a = length-map (keep (comes ms) cs) (λ s. corner fs (backward s)) in
     let b = length-keep (comes ms) cs in
     omega (arith, a, b)
 
-first-crease : (fs : List ℕ) (ms : List Bool) (f : Fan) (cs : List ℕ) → f ≡ rim cs → getD (creases fs ms f) 0 0 ≡ getD (ring fs f) 0 0
+pub first-crease : (fs : List ℕ) (ms : List Bool) (f : Fan) (cs : List ℕ) → f ≡ rim cs → getD (creases fs ms f) 0 0 ≡ getD (ring fs f) 0 0
 first-crease fs ms f cs e = rw e
 
-second-crease : (fs : List ℕ) (ms : List Bool) (f : Fan) (cs : List ℕ) → f ≡ rim cs → getD (creases fs ms f) 1 0 ≡ getD (ring fs f) (length (ring fs f) - 1) 0
+pub second-crease : (fs : List ℕ) (ms : List Bool) (f : Fan) (cs : List ℕ) → f ≡ rim cs → getD (creases fs ms f) 1 0 ≡ getD (ring fs f) (length (ring fs f) - 1) 0
 second-crease fs ms f cs e = rw e (last-at 0 (ring fs (rim cs)) (omega arith))
 
 module _ (w : List ℕ) (corners links n s : ℕ) (p : Ringable w corners links n s) (ends : stopOf (walk (nextCorner (linksIn w links (3 * n)) s) n (here s)) ≡ ended)

@@ -46,7 +46,7 @@ fn note(m: Met, v: u32) -> Met
 }
 
 // Side s, which leads to vertex v, noted if it is sharp.
-fn meet(words: &[u32], marks: usize, s: usize, m: Met, v: u32) -> Met
+pub fn meet(words: &[u32], marks: usize, s: usize, m: Met, v: u32) -> Met
     requires { ⌜ (marks + s / 3 < length (now words)) × (m .n + 1 < 18446744073709551616) ⌝ }
     ensures { λ r. ⌜ r ≡ pick (markOf (getD (now (words .entry)) (marks + s / 3) 0) (s % 3)) (noted m v) m ⌝ }
 {
@@ -54,7 +54,7 @@ fn meet(words: &[u32], marks: usize, s: usize, m: Met, v: u32) -> Met
 }
 
 // One more, if side s is sharp.
-fn tallied(words: &[u32], marks: usize, s: usize, k: usize) -> usize
+pub fn tallied(words: &[u32], marks: usize, s: usize, k: usize) -> usize
     requires { ⌜ (marks + s / 3 < length (now words)) × (k + 1 < 18446744073709551616) ⌝ }
     ensures { λ r. ⌜ r ≡ k + bit (markOf (getD (now (words .entry)) (marks + s / 3) 0) (s % 3)) ⌝ }
 {
@@ -127,9 +127,10 @@ pub struct SharpRing {
     pub b: u32,
 }
 
-struct Rest {
-    n: usize,
-    sharp: usize,
+// What the way back adds: how many there are now, and how many of its sides are sharp.
+pub struct Rest {
+    pub n: usize,
+    pub sharp: usize,
 }
 
 // `gather_back`, with how many of the sides that it comes by are sharp.

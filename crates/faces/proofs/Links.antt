@@ -31,7 +31,7 @@ module _ (w : List ℕ) (at n : ℕ) (room : at + n ≤ length w) where
   getD-linksIn s h = getD-map linkOf (part at n w) s 0 none (rw (length-part w at n room) h) ∙ ap linkOf (getD-part w at n s 0 h)
 
 -- the link of a word leads below the bound
-abbrev Below : ℕ → Option ℕ → Type 0
+abbrev pub Below : ℕ → Option ℕ → Type 0
 Below n none = Unit {0}
 Below n (some t) = t < n
 
@@ -39,11 +39,11 @@ link-below : (n x : ℕ) → x ≤ n → Below n (linkOf x)
 link-below n zero h = tt
 link-below n (suc t) h = h
 
-on-link-below : (n : ℕ) (o : Option ℕ) → Below (3 * n) o → Below (3 * n) (through onward o)
+pub on-link-below : (n : ℕ) (o : Option ℕ) → Below (3 * n) o → Below (3 * n) (through onward o)
 on-link-below n none h = tt
 on-link-below n (some t) h = on-below t n h
 
-step-below : (n h t : ℕ) (o : Option ℕ) → Below n o → stepOf (stepTo h o) ≡ step.Here t → t < n
+pub step-below : (n h t : ℕ) (o : Option ℕ) → Below n o → stepOf (stepTo h o) ≡ step.Here t → t < n
 step-below n h t none b e = absurd (let z : _≡_ {A = ℕ} 0 1 = cc in omega arith)
 step-below n h t (some x) b e = go (eqb x h) e
   where

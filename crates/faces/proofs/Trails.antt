@@ -25,7 +25,7 @@ pub some-passed : (next : ℕ → mesh.Step) (n s : ℕ) → 0 < n → 0 < lengt
 some-passed next zero s h = absurd (not-suc-le-zero h)
 some-passed next (suc n) s h = omega arith
 
-ended-is : (st : Stop) (a b m e : ℕ) → tripBy st a b ≡ trip.Ended m e → b ≡ e
+pub ended-is : (st : Stop) (a b m e : ℕ) → tripBy st a b ≡ trip.Ended m e → b ≡ e
 ended-is closed a b m e q = absurd (let z : _≡_ {A = ℕ} 0 1 = cc in omega arith)
 ended-is ended a b m e q = cc
 ended-is long a b m e q = absurd (let z : _≡_ {A = ℕ} 0 1 = cc in omega arith)

@@ -159,7 +159,7 @@ pub fn other_vert(f: Face, a: VertNo, b: VertNo) -> Vert
     or_else(x, a, b, or_else(y, a, b, or_else(z, a, b, Vert::Absent)))
 }
 
-fn decode(x: u32) -> Link
+pub fn decode(x: u32) -> Link
     ensures { λ r. ⌜ r ≡ faceLink (linkOf x) ⌝ }
 {
     if x == 0 {
@@ -223,7 +223,7 @@ pub enum Step {
     Here(usize),
 }
 
-fn step_to(home: usize, t: usize) -> Step
+pub fn step_to(home: usize, t: usize) -> Step
     ensures { λ r. ⌜ r ≡ stepOf (mesh.stepTo home (some t)) ⌝ }
 {
     if t == home { Step::Home } else { Step::Here(t) }
@@ -329,7 +329,7 @@ pub enum Turn {
     Endless,
 }
 
-fn rim_turn(back: Trip, end: usize) -> Turn
+pub fn rim_turn(back: Trip, end: usize) -> Turn
     ensures { λ r. ⌜ r ≡ rimTurn back end ⌝ }
 {
     match back {

@@ -20,7 +20,7 @@ use Rattle.faces.specs.Words.{linkOf, coded, linksIn, Holds}
 use Rattle.faces.proofs.Held.{link-coded}
 use Rattle.levels.specs.Level.{meshIn, Below, Mutual, childrenBy, linksBy, Ready, Grown}
 
-decoded : (os : List (Option ℕ)) → map linkOf (map coded os) ≡ os
+pub decoded : (os : List (Option ℕ)) → map linkOf (map coded os) ≡ os
 decoded [] = refl
 decoded (o ∷ os) = ap₂ {C = List (Option ℕ)} (λ a l. a ∷ l) (link-coded o) (decoded os)
 
@@ -89,7 +89,7 @@ holds-by : (w : List ℕ) (at f v : ℕ) (fs ss : List ℕ) → part at (3 * f) 
     at + 6 * f + v ≤ length w → length fs / 3 ≡ f → Holds w at (record { verts = v; faces = fs; starts = ss })
 holds-by w at f v fs ss a b c d e = record { faces = rw e a; links = rw e b; starts = rw e c; room = rw e d }
 
-refined-is : (n : ℕ) (m : Mesh) (ls : List (Option ℕ)) → length (m .faces) / 3 ≡ n
+pub refined-is : (n : ℕ) (m : Mesh) (ls : List (Option ℕ)) → length (m .faces) / 3 ≡ n
     → refined m ls ≡ record { verts = m .verts + length (firsts ls); faces = gather (children (m .verts) (m .faces) ls) (count 0 n); starts = map restart (m .starts) ++ map fourth (firsts ls) }
 unfolding refined
 refined-is n m ls e = rw e

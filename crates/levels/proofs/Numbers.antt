@@ -25,11 +25,11 @@ first-own s (some t) e = omega (arith, leb-true s t e)
 
 module _ (v : ℕ) (ls : List (Option ℕ)) where
   -- a first side gets the next number
-  next : (s k : ℕ) → firstMet ls s ≡ true → k ≡ tally (firstMet ls) (count 0 s) → v + k ≡ middle v ls s
+  pub next : (s k : ℕ) → firstMet ls s ≡ true → k ≡ tally (firstMet ls) (count 0 s) → v + k ≡ middle v ls s
   next s k e q = rw (first-own s (getD ls s none) e, q)
 
   -- and a later one has the number of the side across
-  again : (s t : ℕ) → t < s → getD ls s none ≡ some t → getD ls t none ≡ some s → middle v ls t ≡ middle v ls s
+  pub again : (s t : ℕ) → t < s → getD ls s none ≡ some t → getD ls t none ≡ some s → middle v ls t ≡ middle v ls s
   again s t h e f =
       let p : firstOf t (some s) ≡ firstOf s (some t) = omega arith in
       rw (e, f, p)

@@ -22,7 +22,7 @@ pub fn first_met(w: u32, s: u32) -> bool
 }
 
 // The number of the edge of side s: the next one where it is first met, and else what the side across was given.
-fn edge_number(words: &[u32], mids: usize, w: u32, s: u32, next: u32) -> u32
+pub fn edge_number(words: &[u32], mids: usize, w: u32, s: u32, next: u32) -> u32
     requires { ⌜ mids + s ≤ length (now words) ⌝ }
     ensures { λ r. ⌜ r ≡ pick (isFirst s (linkOf w)) next (getD (now (words .entry)) (mids + (w - 1)) 0) ⌝ }
 {
@@ -33,7 +33,7 @@ fn edge_number(words: &[u32], mids: usize, w: u32, s: u32, next: u32) -> u32
     }
 }
 
-fn counted(yes: bool, k: usize) -> usize
+pub fn counted(yes: bool, k: usize) -> usize
     requires { ⌜ k < 4294967296 ⌝ }
     ensures { λ r. ⌜ r ≡ k + bit yes ⌝ }
 {
@@ -81,7 +81,7 @@ fn put_children(words: &mut [u32], j: usize, v0: u32, v1: u32, v2: u32, m0: u32,
 }
 
 // "Face f becomes 4f to 4f+3."
-fn children(words: &mut [u32], at: usize, mids: usize, to: usize, nf: usize)
+pub fn children(words: &mut [u32], at: usize, mids: usize, to: usize, nf: usize)
     requires room { ⌜ (at + 3 * nf ≤ length (now words)) × ((mids + 3 * nf ≤ length (now words)) × (to + 12 * nf ≤ length (now words))) ⌝ }
     requires apart { ⌜ ((at + 3 * nf ≤ to) ⊎ (to + 12 * nf ≤ at)) × ((mids + 3 * nf ≤ to) ⊎ (to + 12 * nf ≤ mids)) ⌝ }
     ensures { λ r. ⌜ now (words .exit) ≡ sets (now (words .entry)) to (gather (childrenBy (part at (3 * nf) (now (words .entry))) (part mids (3 * nf) (now (words .entry)))) (count 0 nf)) ⌝ }
@@ -109,7 +109,7 @@ fn restarted(s: usize) -> usize
 }
 
 // "an edge vertex at the fourth child of the face that first met it".
-fn in_fourth(s: usize) -> usize
+pub fn in_fourth(s: usize) -> usize
     requires { ⌜ s < 4294967296 ⌝ }
     ensures { λ r. ⌜ r ≡ fourth s ⌝ }
 {
@@ -172,7 +172,7 @@ fn child_links(words: &mut [u32], links: usize, to: usize, nf: usize)
 }
 
 // Old vertices keep their numbers, and restart.
-fn old_starts(words: &mut [u32], starts: usize, to: usize, v: usize, sides: usize)
+pub fn old_starts(words: &mut [u32], starts: usize, to: usize, v: usize, sides: usize)
     requires room { ⌜ (starts + v ≤ length (now words)) × (to + v ≤ length (now words)) ⌝ }
     requires apart { ⌜ (starts + v ≤ to) ⊎ (to + v ≤ starts) ⌝ }
     requires small { ⌜ (4 * sides + 12 < 4294967296) × Below (part starts v (now words)) sides ⌝ }

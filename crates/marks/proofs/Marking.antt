@@ -17,7 +17,7 @@ use Rattle.lists.proofs.Places.{length-count}
 use Rattle.rules.specs.Sharp.{names, namesAcross, marksOf}
 use Rattle.rules.proofs.Both.{marks-at, found-later}
 use Rattle.faces.specs.Words.{linkOf, linksIn}
-use Rattle.faces.proofs.Links.{link-word, length-linksIn, getD-linksIn}
+use Rattle.faces.proofs.Links.{link-word, getD-linksIn}
 use Rattle.marks.specs.Marks.{marksIn, withBit, Marking, Listable}
 use Rattle.marks.proofs.Marks.{mark-set, length-marks}
 
@@ -73,11 +73,10 @@ length-of ls l = length-map (count 0 (length ls)) _ ∙ length-count 0 (length l
 
 -- ---- one listed side more: s, and t across it
 
-module _ (w₀ : List ℕ) (links marks n : ℕ) (after : links + 3 * n ≤ marks) (room : marks + n ≤ length w₀)
-    (back : (x y : ℕ) → x < 3 * n → getD (linksIn w₀ links (3 * n)) x none ≡ some y → getD (linksIn w₀ links (3 * n)) y none ≡ some x) where
-  abbrev ls : List (Option ℕ)
-  ls = linksIn w₀ links (3 * n)
+abbrev with-mark : ℕ → List ℕ → ℕ → List ℕ
+with-mark marks w y = set w (marks + y / 3) (withBit (getD w (marks + y / 3) 0) (y % 3))
 
+module _ (w₀ : List ℕ) (ls : List (Option ℕ)) (marks n : ℕ) (room : marks + n ≤ length w₀) (back : (x y : ℕ) → x < 3 * n → getD ls x none ≡ some y → getD ls y none ≡ some x) where
   module _ (s t : ℕ) (hs : s < 3 * n) (ht : t < 3 * n) (e : getD ls s none ≡ some t) where
     -- the side across is the one whose link leads to s
     leads-is : (x : ℕ) → x < 3 * n → eqb x t ≡ leads s (getD ls x none)
@@ -91,12 +90,9 @@ module _ (w₀ : List ℕ) (links marks n : ℕ) (after : links + 3 * n ≤ mark
         go (yes z) = eq-eqb x t z ∙ sym (ap (leads s) (ap (λ (y : ℕ). getD ls y none) z ∙ back s t hs e) ∙ eq-eqb s s refl)
         go (no f) = ne-eqb x t f ∙ sym (at (getD ls x none) refl f)
 
-    abbrev marked : List ℕ → ℕ → List ℕ
-    marked w y = set w (marks + y / 3) (withBit (getD w (marks + y / 3) 0) (y % 3))
-
-    pub marking-more : (l : List ℕ) (w : List ℕ) → Marking w₀ links marks n l w → Marking w₀ links marks n (l ++ (s ∷ [])) (marked (marked w s) t)
+    marking-more : (l : List ℕ) (w : List ℕ) → Marking w₀ ls marks n l w → Marking w₀ ls marks n (l ++ (s ∷ [])) (with-mark marks (with-mark marks w s) t)
     marking-more l w m =
-        let v = marked w s in
+        let v = with-mark marks w s in
         let lv : length v ≡ length w = length-set w (marks + s / 3) (withBit (getD w (marks + s / 3) 0) (s % 3)) in
         record {
           long = length-set v (marks + t / 3) (withBit (getD v (marks + t / 3) 0) (t % 3)) ∙ lv ∙ m .long;
@@ -113,19 +109,23 @@ module _ (w₀ : List ℕ) (links marks n : ℕ) (after : links + 3 * n ≤ mark
               ∙ sym (ap₂ (λ (b c : Bool). b || c) (names-end l s x) (across-end l s o));
         }
 
-  -- all of them
-  pub marking-done : (l w : List ℕ) → Marking w₀ links marks n l w → marksIn w marks n ≡ marksOf ls l
-  marking-done l w m =
-      let k : length ls ≡ 3 * n = length-linksIn w₀ links (3 * n) (omega arith) in
-      ext-getD false (marksIn w marks n) (marksOf ls l) (length-marks w marks n ∙ sym (length-of ls l ∙ k))
-      (λ x h. let b : x < 3 * n = omega (arith, length-marks w marks n) in m .each x b ∙ sym (marks-at ls l x (omega (arith, k))))
+    -- the next of a list
+    pub marking-next : (l : List ℕ) (i : ℕ) → i < length l → s ≡ getD l i 0 → (w v x : List ℕ) → Marking w₀ ls marks n (take i l) w → v ≡ with-mark marks w s → x ≡ with-mark marks v t
+        → Marking w₀ ls marks n (take (i + 1) l) x
+    marking-next l i h f w v x m a b =
+        let c : take (i + 1) l ≡ take i l ++ (s ∷ []) = ap (λ (z : ℕ). take z l) (add-one i) ∙ take-suc l i 0 h ∙ ap (λ (z : ℕ). take i l ++ (z ∷ [])) (sym f) in
+        let d : x ≡ with-mark marks (with-mark marks w s) t = b ∙ ap (λ (u : List ℕ). with-mark marks u t) a in
+        subst (λ (u : List ℕ). Marking w₀ ls marks n u x) (sym c) (subst (λ (u : List ℕ). Marking w₀ ls marks n (take i l ++ (s ∷ [])) u) (sym d) (marking-more (take i l) w m))
+
+-- all of them
+pub marking-done : (w₀ : List ℕ) (ls : List (Option ℕ)) (marks n : ℕ) (l w : List ℕ) → length ls ≡ 3 * n → Marking w₀ ls marks n l w → marksIn w marks n ≡ marksOf ls l
+marking-done w₀ ls marks n l w k m =
+    ext-getD false (marksIn w marks n) (marksOf ls l) (length-marks w marks n ∙ sym (length-of ls l ∙ k))
+    (λ x h. let b : x < 3 * n = omega (arith, length-marks w marks n) in m .each x b ∙ sym (marks-at ls l x (omega (arith, k))))
 
 -- ---- one turn of the loop
 
-abbrev with-mark : ℕ → List ℕ → ℕ → List ℕ
-with-mark marks w y = set w (marks + y / 3) (withBit (getD w (marks + y / 3) 0) (y % 3))
-
-module _ (w₀ : List ℕ) (links marks n : ℕ) (l : List ℕ) (r : Listable w₀ links marks n l) (i : ℕ) (h : i < length l) (w : List ℕ) (m : Marking w₀ links marks n (take i l) w) where
+module _ (w₀ : List ℕ) (links marks n : ℕ) (l : List ℕ) (r : Listable w₀ links marks n l) (i : ℕ) (h : i < length l) (w : List ℕ) (m : Marking w₀ (linksIn w₀ links (3 * n)) marks n (take i l) w) where
   pub word-is : getD w (links + getD l i 0) 0 ≡ getD w₀ (links + getD l i 0) 0
   word-is = let a = r .side i h in let b = r .after in m .kept (links + getD l i 0) (inl (omega arith))
 
@@ -135,7 +135,7 @@ module _ (w₀ : List ℕ) (links marks n : ℕ) (l : List ℕ) (r : Listable w�
   pub word-some : 0 < getD w (links + getD l i 0) 0
   word-some = rw word-is (r .across i h)
 
-  pub marking-step : (v x : List ℕ) → v ≡ with-mark marks w (getD l i 0) → x ≡ with-mark marks v (getD w (links + getD l i 0) 0 - 1) → Marking w₀ links marks n (take (i + 1) l) x
+  pub marking-step : (v x : List ℕ) → v ≡ with-mark marks w (getD l i 0) → x ≡ with-mark marks v (getD w (links + getD l i 0) 0 - 1) → Marking w₀ (linksIn w₀ links (3 * n)) marks n (take (i + 1) l) x
   marking-step v x a b =
       let s = getD l i 0 in
       let y = getD w (links + s) 0 in
@@ -143,7 +143,4 @@ module _ (w₀ : List ℕ) (links marks n : ℕ) (l : List ℕ) (r : Listable w�
       let above = word-some in
       let e : getD (linksIn w₀ links (3 * n)) s none ≡ some (y - 1) =
       getD-linksIn w₀ links (3 * n) (let p = r .after in let q = r .room in omega arith) s (r .side i h) ∙ ap linkOf (sym word-is) ∙ link-word y (λ z. omega arith) in
-      let k = marking-more w₀ links marks n (r .after) (r .room) (r .back) s (y - 1) (r .side i h) (omega arith) e (take i l) w m in
-      let c : take (i + 1) l ≡ take i l ++ (s ∷ []) = ap (λ (z : ℕ). take z l) (add-one i) ∙ take-suc l i 0 h in
-      let d : x ≡ with-mark marks (with-mark marks w s) (y - 1) = b ∙ ap (λ (u : List ℕ). with-mark marks u (y - 1)) a in
-      subst (λ (u : List ℕ). Marking w₀ links marks n u x) (sym c) (subst (λ (u : List ℕ). Marking w₀ links marks n (take i l ++ (s ∷ [])) u) (sym d) k)
+      marking-next w₀ (linksIn w₀ links (3 * n)) marks n (r .room) (r .back) s (y - 1) (r .side i h) (omega arith) e l i h refl w v x m a b

@@ -4,7 +4,7 @@ use mathlib.Core.Path.{_≡_}
 use mathlib.Core.Logic.{_⊎_}
 use mathlib.Core.Bool.{Bool, _||_}
 use mathlib.Core.List.{List, [], _∷_, map}
-use mathlib.Core.Option.{none, some}
+use mathlib.Core.Option.{Option, none, some}
 use lib.Dec.{eqb}
 use lib.ListN.{length, getD}
 use Rattle.lists.specs.Lists.{pick, count}
@@ -30,15 +30,15 @@ marksFrom ws f = fourMarks (getD ws f 0)
 abbrev pub withBit : ℕ → ℕ → ℕ
 withBit x k = pick (markOf x k) x (x + pick (eqb k 0) 1 (pick (eqb k 1) 2 4))
 
--- words w₀ in which the sides of the list l were marked on both faces, in the words of n faces from `at` on, have become w; nothing else has changed
-pub record Marking (w₀ : List ℕ) (links at n : ℕ) (l w : List ℕ) : Type 0 where
+-- words w₀ in which the sides of the list l were marked on both faces, by the links ls, in the words of n faces from `at` on, have become w; nothing else has changed
+pub record Marking (w₀ : List ℕ) (ls : List (Option ℕ)) (at n : ℕ) (l w : List ℕ) : Type 0 where
   pub long : length w ≡ length w₀
   pub kept : (j : ℕ) → (j < at) ⊎ (at + n ≤ j) → getD w j 0 ≡ getD w₀ j 0
-  pub each : (x : ℕ) → x < 3 * n → sharp (marksIn w at n) x ≡ names l x || namesAcross l (getD (linksIn w₀ links (3 * n)) x none)
+  pub each : (x : ℕ) → x < 3 * n → sharp (marksIn w at n) x ≡ names l x || namesAcross l (getD ls x none)
 
 -- what marking a list asks: no side is marked yet, the marks stand after the link words, each listed side has one across, and links lead back
 pub record Listable (w : List ℕ) (links at n : ℕ) (l : List ℕ) : Type 0 where
-  pub none-yet : Marking w links at n [] w
+  pub none-yet : Marking w (linksIn w links (3 * n)) at n [] w
   pub after : links + 3 * n ≤ at
   pub room : at + n ≤ length w
   pub side : (i : ℕ) → i < length l → getD l i 0 < 3 * n

@@ -5,6 +5,7 @@ ghost use Prim.Native.Nat.{_+_, _*_, _/_, _%_, _≤_, _<_};
 ghost use lib.ListN.{length, getD, set};
 ghost use lib.Seq.{sets};
 ghost use Rattle.lists.specs.Lists.{count, gather, part};
+ghost use Rattle.faces.specs.Words.{linksIn};
 ghost use Rattle.marks.specs.Marks.{markOf, fourMarks, marksFrom, withBit, Marking, Listable};
 
 // The mark of side s: bit s % 3 of the word of its face, of those that stand from `marks` on.
@@ -84,7 +85,7 @@ pub fn set_mark(words: &mut [u32], marks: usize, s: usize)
 // The listed sides, on both faces, where none is marked yet.
 pub fn mark_words(sharp: &[u32], words: &mut [u32], links: usize, marks: usize, nf: usize)
     requires { ⌜ Listable (now words) links marks nf (now sharp) ⌝ }
-    ensures { λ r. ⌜ Marking (now (words .entry)) links marks nf (now (sharp .entry)) (now (words .exit)) ⌝ }
+    ensures { λ r. ⌜ Marking (now (words .entry)) (linksIn (now (words .entry)) links (3 * nf)) marks nf (now (sharp .entry)) (now (words .exit)) ⌝ }
 {
     let mut i = 0;
     while i < sharp.len() {

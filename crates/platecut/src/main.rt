@@ -1,62 +1,9 @@
 // `platecut`: a sheet from standard input; the listing of its plate, or the refusal, to standard output.
+use sheet::Engine;
 
-ghost use Prim.Native.Nat.{_≤_};
-ghost use lib.ListN.{length};
-ghost use Rattle.listing.specs.Text.{Put};
-ghost use Rattle.platecut.specs.Output.{plateText, cutText};
-use libc::STDERR_FILENO;
-use libc::STDIN_FILENO;
-use libc::STDOUT_FILENO;
-use rules::Outcome;
-use rules::Refusal;
-
-// Room for 512 faces and 512 vertices is lent; their text is at most 68 + 68 * 512 + 65 * 512 bytes.
-fn plate(bytes: &[u8], text: &mut [u8]) -> usize
-    requires { ⌜ 68164 ≤ length (now text) ⌝ }
-    ensures { λ r. ⌜ Put (now (text .entry)) 0 (plateText (now (bytes .entry))) (now (text .exit)) r ⌝ }
-    ensures { λ r. ⌜ r ≤ length (now (text .entry)) ⌝ }
-{
-    let mut positions = [0i32; 1536];
-    let mut indices = [0u32; 1536];
-    let mut words = [0u32; 12288];
-    let mut work = [0i32; 3072];
-    match sheet::subdivide_sheet(bytes, &mut positions, &mut indices, &mut words, &mut work) {
-        Outcome::Refused(r) => listing::refused_text(text, r),
-        Outcome::Success(c) => {
-            let nc = 3 * (c.vertices as usize);
-            let nw = 3 * (c.faces as usize);
-            listing::mesh_text(text, c, &positions[..nc], &indices[..nw])
-        }
-    }
-}
-
-fn cut(bytes: &[u8], text: &mut [u8]) -> usize
-    requires { ⌜ 68164 ≤ length (now text) ⌝ }
-    ensures { λ r. ⌜ Put (now (text .entry)) 0 (cutText (now (bytes .entry))) (now (text .exit)) r ⌝ }
-    ensures { λ r. ⌜ r ≤ length (now (text .entry)) ⌝ }
-{
-    if bytes.len() > 32768 {
-        return listing::refused_text(
-            text,
-            Refusal {
-                number: 16,
-                place: 0,
-            },
-        );
-    }
-    plate(bytes, text)
-}
-
-// One byte over the most is read, so that 16 can be told.
 fn main() {
-    let mut input = [0u8; 32769];
-    let n = io::read_full(STDIN_FILENO, &mut input);
-    let mut text = [0u8; 68164];
-    let k = cut(&input[..n], &mut text);
-    if !io::write_all(STDOUT_FILENO, &text[..k]) {
-        io::write_all(
-            STDERR_FILENO,
-            b"platecut: the listing could not be written whole. Do not cast from it.\n",
-        );
-    }
+    cutting::run(
+        Engine::Linked,
+        b"platecut: the listing could not be written whole. Do not cast from it.\n",
+    );
 }

@@ -43,6 +43,27 @@ pub extern "C" fn plates_loop_subdivide_whole(
     );
 }
 
+// The same by the plain engine, which keeps no links between faces.
+#[no_mangle]
+pub extern "C" fn plates_loop_subdivide_plain(
+    levels: u32,
+    indices: &[u32],
+    coords: &[i32],
+    sharp: &[u32],
+    positions: &mut [i32],
+    out: &mut [u32],
+    words: &mut [u32],
+    work: &mut [i32],
+    told: &mut [u32; 5],
+)
+    ensures { λ r. ⌜ Told (SharpCall levels (given sharp) (given indices) (given coords) (buffers positions out words work)) (now (told .exit)) ⌝ }
+{
+    rules::tell(
+        plain::loop_subdivide_plain(levels, indices, coords, sharp, positions, out, words, work),
+        told,
+    );
+}
+
 // In f32, with normals.
 #[no_mangle]
 pub extern "C" fn plates_loop_subdivide(

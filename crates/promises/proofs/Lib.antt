@@ -5,3 +5,4 @@ pub mod Eleven
 pub mod OutlinePromises
 pub mod Turned
 pub mod Claims
+pub mod Plain

@@ -105,10 +105,10 @@ module _ (w : List ℕ) (at n : ℕ) (m : Mesh) (h : Holds w 0 m) (g : Good (m .
       ∙ ap (λ (z : ℕ). getD zeros z 0) (let e : k ≡ 1 * k + 0 = omega arith in e)
       ∙ getD-gather unmarked 1 (λ f. refl) (count 0 n) k 0 0 0 (rw (length-count 0 n) b) (omega arith)
 
-  clean-links : linksIn cleanOf (3 * n) (3 * n) ≡ links (m .faces)
+  pub clean-links : linksIn cleanOf (3 * n) (3 * n) ≡ links (m .faces)
   clean-links = ap (λ (k : ℕ). linksIn cleanOf k (3 * n)) (sym (zero-add (3 * n))) ∙ links-held cleanOf 0 n m clean-held g
 
-  word-is : (s : ℕ) → s < 3 * n → getD cleanOf (3 * n + s) 0 ≡ coded (getD (links (m .faces)) s none)
+  pub word-is : (s : ℕ) → s < 3 * n → getD cleanOf (3 * n + s) 0 ≡ coded (getD (links (m .faces)) s none)
   word-is s b = ap (λ (k : ℕ). getD cleanOf (k + s) 0) (sym (zero-add (3 * n))) ∙ link-word cleanOf 0 n m clean-held g s b
 
   long-links : length (links (m .faces)) ≡ 3 * n
@@ -150,12 +150,12 @@ module _ (w : List ℕ) (at n : ℕ) (m : Mesh) (h : Holds w 0 m) (g : Good (m .
     back = back;
   }
 
-  pub marks-loaded : (half : ℕ) → at ≡ half - n → at + n ≤ 2 * half → (x : List ℕ) → Marking cleanOf (3 * n) at n sl x → MarksLoaded sl m half w x
+  pub marks-loaded : (half : ℕ) → at ≡ half - n → at + n ≤ 2 * half → (x : List ℕ) → Marking cleanOf (linksIn cleanOf (3 * n) (3 * n)) at n sl x → MarksLoaded sl m half w x
   marks-loaded half e k x q = record {
     held = holds-same cleanOf x m clean-held (q .long) (λ j b. q .kept j (inl (omega (arith, face-count))));
     marks =
         let d : marksIn x at n ≡ marksOf (links (m .faces)) sl =
-        marking-done cleanOf (3 * n) at n (omega arith) (omega (arith, long-clean)) back sl x q ∙ ap (λ (ls : List (Option ℕ)). marksOf ls sl) clean-links in
+        marking-done cleanOf (linksIn cleanOf (3 * n) (3 * n)) at n sl x (ap (λ (ls : List (Option ℕ)). length ls) clean-links ∙ long-links) q ∙ ap (λ (ls : List (Option ℕ)). marksOf ls sl) clean-links in
         subst (λ (z : ℕ). marksIn x (half - z) z ≡ marksOf (links (m .faces)) sl) (sym face-count) (ap (λ (z : ℕ). marksIn x z n) (sym e) ∙ d);
     kept = record {
       long = q .long ∙ long-clean;
@@ -163,8 +163,8 @@ module _ (w : List ℕ) (at n : ℕ) (m : Mesh) (h : Holds w 0 m) (g : Good (m .
     };
   }
 
-  pub marks-loaded-from : (half : ℕ) → at ≡ half - n → at + n ≤ 2 * half → (y x : List ℕ) → y ≡ cleanOf → Marking y (3 * n) at n sl x → MarksLoaded sl m half w x
-  marks-loaded-from half e k y x c q = marks-loaded half e k x (subst (λ (z : List ℕ). Marking z (3 * n) at n sl x) c q)
+  pub marks-loaded-from : (half : ℕ) → at ≡ half - n → at + n ≤ 2 * half → (y x : List ℕ) → y ≡ cleanOf → Marking y (linksIn y (3 * n) (3 * n)) at n sl x → MarksLoaded sl m half w x
+  marks-loaded-from half e k y x c q = marks-loaded half e k x (subst (λ (z : List ℕ). Marking z (linksIn z (3 * n) (3 * n)) at n sl x) c q)
 
 -- ---- the call's own
 

@@ -87,7 +87,7 @@ module _ (l : ℕ) (sl fs : List ℕ) (xs : List ℤ) (half third : ℕ) (w₀ :
     ok : Accepted whole l fs xs
     ok = accepted whole l fs xs (listed .passes)
 
-    half-is : half ≡ 8 * facesOf fs l + 4 * vertsOf whole fs xs l
+    pub half-is : half ≡ 8 * facesOf fs l + 4 * vertsOf whole fs xs l
     half-is = parts .words ∙ ap (λ (k : ℕ). 8 * k + 4 * vertsOf whole fs xs l) (fits whole fs xs l ok l (le-refl l) .faces)
 
     mesh-is : (i : ℕ) → sharpLast whole i sl fs xs .mesh ≡ levelAt whole fs xs i .mesh
@@ -185,7 +185,7 @@ module _ (l : ℕ) (sl fs : List ℕ) (xs : List ℤ) (half third : ℕ) (w₀ :
           marching-ready = rw (a, b, g .faces, g .verts) (ready whole fs xs l ok half half-is i h w (g .held) in-words)
 
           module _ (w′ : List ℕ) (e : ℕ) (grown : Grown w w′ at to n v) (more : e ≡ length (firsts (links (part at (3 * n) w)))) where
-            more-is : vertsOf whole fs xs (i + 1) ≡ v + e
+            pub more-is : vertsOf whole fs xs (i + 1) ≡ v + e
             more-is = omega (arith, g .verts, more ∙ ap (λ (f : List ℕ). length (firsts (links f))) faces-are, next-verts whole fs xs i)
 
             -- both levels lie before their marks, and the parts are apart

@@ -23,7 +23,7 @@ ghost use Rattle.creases.specs.Moves.{Markable};
 ghost use Rattle.sharp.specs.Marked.{SharpHeld, Listed, unmarked, MarksLoaded};
 
 // The words of n faces, from `at` on, with no mark.
-fn no_marks(words: &mut [u32], at: usize, n: usize)
+pub fn no_marks(words: &mut [u32], at: usize, n: usize)
     requires { ⌜ at + n ≤ length (now words) ⌝ }
     ensures { λ r. ⌜ now (words .exit) ≡ sets (now (words .entry)) at (gather unmarked (count 0 n)) ⌝ }
 {

@@ -141,8 +141,15 @@ pub fn coords_from(b: &[u8], n: usize, s: &mut [i32])
     }
 }
 
+// The engine that runs: the one that keeps links between faces, or the plain one, which looks through the face list. Both promise the same.
+pub enum Engine {
+    Linked,
+    Plain,
+}
+
 // The whole engine with no sharp edges: a sheet has no marks.
 fn smooth(
+    engine: Engine,
     levels: u32,
     indices: &[u32],
     coords: &[i32],
@@ -153,20 +160,34 @@ fn smooth(
 ) -> Outcome
     ensures { λ r. ⌜ WholeCall levels (given indices) (given coords) (buffers positions out words work) r ⌝ }
 {
-    loopsubdiv::loop_subdivide_whole(
-        levels,
-        indices,
-        coords,
-        &indices[..0],
-        positions,
-        out,
-        words,
-        work,
-    )
+    let none = &indices[..0];
+    match engine {
+        Engine::Linked => loopsubdiv::loop_subdivide_whole(
+            levels,
+            indices,
+            coords,
+            none,
+            positions,
+            out,
+            words,
+            work,
+        ),
+        Engine::Plain => plain::loop_subdivide_plain(
+            levels,
+            indices,
+            coords,
+            none,
+            positions,
+            out,
+            words,
+            work,
+        ),
+    }
 }
 
 // The whole engine on the lists of a sheet, which checks 1 and 3 keep within local arrays.
 fn subdivide_lists(
+    engine: Engine,
     bytes: &[u8],
     vertices: usize,
     faces: usize,
@@ -186,6 +207,7 @@ fn subdivide_lists(
     let mut indices = [0u32; 12288];
     words_from(face_block(bytes), nw, &mut indices);
     smooth(
+        engine,
         levels,
         &indices[..nw],
         &coords[..nc],
@@ -196,8 +218,9 @@ fn subdivide_lists(
     )
 }
 
-// The whole engine on a sheet of any length. 15, 1 and 3 need the trailer alone; 2 cannot occur.
-pub fn subdivide_sheet(
+// Either engine on a sheet of any length. 15, 1 and 3 need the trailer alone; 2 cannot occur.
+pub fn subdivide_by(
+    engine: Engine,
     bytes: &[u8],
     positions: &mut [i32],
     out: &mut [u32],
@@ -220,8 +243,44 @@ pub fn subdivide_sheet(
             let nf = faces as usize;
             match cage::shape(levels, 3 * nf, 3 * nv) {
                 Check::No(r) => Outcome::Refused(r),
-                Check::Pass => subdivide_lists(bytes, nv, nf, levels, positions, out, words, work),
+                Check::Pass => subdivide_lists(
+                    engine,
+                    bytes,
+                    nv,
+                    nf,
+                    levels,
+                    positions,
+                    out,
+                    words,
+                    work,
+                ),
             }
         }
     }
+}
+
+// The linked engine on a sheet.
+pub fn subdivide_sheet(
+    bytes: &[u8],
+    positions: &mut [i32],
+    out: &mut [u32],
+    words: &mut [u32],
+    work: &mut [i32],
+) -> Outcome
+    ensures { λ r. ⌜ SheetCall (given bytes) (buffers positions out words work) r ⌝ }
+{
+    subdivide_by(Engine::Linked, bytes, positions, out, words, work)
+}
+
+// The plain engine on a sheet.
+pub fn subdivide_sheet_plain(
+    bytes: &[u8],
+    positions: &mut [i32],
+    out: &mut [u32],
+    words: &mut [u32],
+    work: &mut [i32],
+) -> Outcome
+    ensures { λ r. ⌜ SheetCall (given bytes) (buffers positions out words work) r ⌝ }
+{
+    subdivide_by(Engine::Plain, bytes, positions, out, words, work)
 }

@@ -1,25 +1,16 @@
 use denote.Ref.{now}
-use Prim.Native.Nat.{ℕ, _/_}
-use mathlib.Core.Path.{_≡_, sym, ap, _∙_}
-use mathlib.Core.List.{List}
-use mathlib.Core.Option.{Option}
+use Prim.Native.Nat.{_/_}
+use mathlib.Core.Path.{sym, _∙_}
 use lib.ListN.{length}
 use lib.Dec.{leb}
 use Rattle.lists.specs.Lists.{find, lowest}
 use Rattle.rules.specs.Refusals.{check, _orElse_, equalCorners}
-use Rattle.rules.specs.Answers.{unless}
-use Rattle.rules.specs.declared.Refusal.{Refusal}
 use Rattle.rules.specs.declared.Outcome.the-variants.{Success}
-use Rattle.cage.specs.Sizes.{cageCounts, fromSeven, fromFive}
-use Rattle.cage.proofs.Stages.{five-first, below-of, apart-of, unless-no, unless-goes}
+use Rattle.cage.specs.Sizes.{cageCounts, fromSeven}
+use Rattle.cage.proofs.Stages.{judged-five, below-of, apart-of, unless-no, unless-goes}
 use borrow.Author.Needs.{needs}
 use Rattle.cage.proofs.judge_faces.Statement.{statement}
 use Rattle.cage.proofs.judge_faces.Tie as tie
-
-five : (l v : ℕ) (sh fs : List ℕ) →
-    unless (fromFive l v sh fs) (Success (cageCounts l v fs))
-    ≡ unless (check 5 (find (λ u. leb v u) fs) orElse (check 6 (lowest (equalCorners fs) (length fs / 3)) orElse fromSeven l v sh fs)) (Success (cageCounts l v fs))
-five l v sh fs = ap (λ (r : Option Refusal). unless r (Success (cageCounts l v fs))) (five-first l v sh fs)
 
 cast-beyond : tie.Need-cast-beyond
 cast-beyond c = search needs
@@ -55,21 +46,21 @@ returns c =
     let a = c .before .before .before .before .before .before .args in
     let fs = now (a .indices) in
     unless-no (check 5 (find (λ u. leb (a .v) u) fs)) (check 6 (lowest (equalCorners fs) (length fs / 3)) orElse fromSeven (a .levels) (a .v) (now (a .sharp)) fs) (Success (cageCounts (a .levels) (a .v) fs)) _ (sym (c .before .before .before .beyond .ensures) ∙ c .before .x .given .1)
-    ∙ sym (five (a .levels) (a .v) (now (a .sharp)) fs)
+    ∙ sym (judged-five (a .levels) (a .v) (now (a .sharp)) fs)
 
 returns-2 : tie.Need-returns-2
 returns-2 c =
     let a = c .before .before .before .before .before .before .before .before .before .args in
     let fs = now (a .indices) in
     unless-no (check 6 (lowest (equalCorners fs) (length fs / 3))) (fromSeven (a .levels) (a .v) (now (a .sharp)) fs) (Success (cageCounts (a .levels) (a .v) fs)) _ (sym (c .before .before .before .flat .ensures) ∙ c .before .x2 .given .1)
-    ∙ sym (five (a .levels) (a .v) (now (a .sharp)) fs ∙ unless-goes (check 5 (find (λ u. leb (a .v) u) fs)) (check 6 (lowest (equalCorners fs) (length fs / 3)) orElse fromSeven (a .levels) (a .v) (now (a .sharp)) fs) (Success (cageCounts (a .levels) (a .v) fs)) (sym (c .before .before .before .before .before .before .beyond .ensures) ∙ c .before .before .before .before .enum-told .given .1))
+    ∙ sym (judged-five (a .levels) (a .v) (now (a .sharp)) fs ∙ unless-goes (check 5 (find (λ u. leb (a .v) u) fs)) (check 6 (lowest (equalCorners fs) (length fs / 3)) orElse fromSeven (a .levels) (a .v) (now (a .sharp)) fs) (Success (cageCounts (a .levels) (a .v) fs)) (sym (c .before .before .before .before .before .before .beyond .ensures) ∙ c .before .before .before .before .enum-told .given .1))
 
 returns-3 : tie.Need-returns-3
 returns-3 c =
     let a = c .before .before .before .before .before .before .before .before .before .args in
     let fs = now (a .indices) in
     c .judge-sides .ensures
-    ∙ sym (five (a .levels) (a .v) (now (a .sharp)) fs
+    ∙ sym (judged-five (a .levels) (a .v) (now (a .sharp)) fs
     ∙ unless-goes (check 5 (find (λ u. leb (a .v) u) fs)) (check 6 (lowest (equalCorners fs) (length fs / 3)) orElse fromSeven (a .levels) (a .v) (now (a .sharp)) fs) (Success (cageCounts (a .levels) (a .v) fs)) (sym (c .before .before .before .before .before .before .beyond .ensures) ∙ c .before .before .before .before .enum-told .given .1)
     ∙ unless-goes (check 6 (lowest (equalCorners fs) (length fs / 3))) (fromSeven (a .levels) (a .v) (now (a .sharp)) fs) (Success (cageCounts (a .levels) (a .v) fs)) (sym (c .before .before .before .flat .ensures) ∙ c .before .enum-told2 .given .1))
 

@@ -6,13 +6,14 @@ use mathlib.Core.Path.{_≡_, ap, _∙_, subst}
 use mathlib.Core.List.{List}
 use lib.ListN.{length, take, length-set}
 use lib.Seq.{take-all}
+use Rattle.faces.specs.Words.{linksIn}
 use Rattle.marks.specs.Marks.{Marking}
 use Rattle.marks.proofs.Marking.{word-below, word-some, marking-step}
 use Rattle.marks.proofs.mark_words.Statement.{statement}
 use Rattle.marks.proofs.mark_words.Tie as tie
 
 abbrev Inv-loop : tie.InvT-loop
-Inv-loop sharp words₀ links marks nf i₀ words i = (i ≤ length sharp) × Marking words₀ links marks nf (take i sharp) words
+Inv-loop sharp words₀ links marks nf i₀ words i = (i ≤ length sharp) × Marking words₀ (linksIn words₀ links (3 * nf)) marks nf (take i sharp) words
 
 abbrev μ-loop : tie.MeasureT-loop
 μ-loop sharp words₀ links marks nf i₀ words i = length sharp - i
@@ -71,7 +72,7 @@ returns : tie.Need-returns Inv-loop μ-loop
 returns c =
     let s = c .before .before .before .before in
     let l = c .before .loop in
-    subst (λ (x : List ℕ). Marking (now (s .args .words)) (s .args .links) (s .args .marks) (s .args .nf) x (l .words)) (take-all (l .i) (now (s .args .sharp)) (omega arith)) (l .inv .1)
+    subst (λ (x : List ℕ). Marking (now (s .args .words)) (linksIn (now (s .args .words)) (s .args .links) (3 * s .args .nf)) (s .args .marks) (s .args .nf) x (l .words)) (take-all (l .i) (now (s .args .sharp)) (omega arith)) (l .inv .1)
 
 pub mark-words-spec : {M : Type 1} → statement M
 mark-words-spec =

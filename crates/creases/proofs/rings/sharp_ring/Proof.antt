@@ -8,7 +8,6 @@ use lib.Seq.{sets, length-sets}
 use borrow.Author.Needs.{needs}
 use Rattle.lists.specs.Lists.{part, keep, tally}
 use Rattle.lists.proofs.Places.{length-keep}
-use Rattle.lists.proofs.Stores.{getD-within}
 use Rattle.rules.specs.Mesh.{Fan, onward, backward, corner, here, walk, passed, stopOf, nextCorner, prevCorner, fan, ring}
 use Rattle.rules.specs.Sharp.{sharp, creases}
 use Rattle.rules.proofs.Walks.{trail}
@@ -20,25 +19,10 @@ use Rattle.faces.proofs.Passage.{turned, on-ends, turned-over, counted-closed}
 use Rattle.marks.specs.Marks.{marksIn}
 use Rattle.creases.specs.Rings.{sharpRingOf}
 use Rattle.creases.specs.declared.rings.Met.{Met}
-use Rattle.creases.specs.declared.rings.SharpRing.{SharpRing}
 use Rattle.creases.proofs.Creases.{tally-few}
-use Rattle.creases.proofs.Rims.{creased}
+use Rattle.creases.proofs.Rims.{ringBy, same-ring, stored-at, creased}
 use Rattle.creases.proofs.rings.sharp_ring.Statement.{statement}
 use Rattle.creases.proofs.rings.sharp_ring.Tie as tie
-
-abbrev ringBy : ℕ → Met → SharpRing
-ringBy n m = record { n = n; creases = m .n; a = m .a; b = m .b }
-
-abbrev ring4 : ℕ → ℕ → ℕ → ℕ → SharpRing
-ring4 n k a b = record { n = n; creases = k; a = a; b = b }
-
-same-ring : (x : SharpRing) (n k a b : ℕ) → x .n ≡ n → x .creases ≡ k → x .a ≡ a → x .b ≡ b → x ≡ ring4 n k a b
-same-ring x n k a b e f g h =
-    ap (λ (z : ℕ). ring4 z (x .creases) (x .a) (x .b)) e ∙ ap (λ (z : ℕ). ring4 n z (x .a) (x .b)) f ∙ ap (λ (z : ℕ). ring4 n k z (x .b)) g ∙ ap (λ (z : ℕ). ring4 n k a z) h
-
--- an entry of what was stored
-stored-at : (o xs : List ℕ) (i : ℕ) → i < length xs → length xs ≤ length o → getD (sets o 0 xs) i 0 ≡ getD xs i 0
-stored-at o xs i h k = let z : 0 + i ≡ i = omega arith in rw z at (getD-within xs o 0 i 0 h (omega arith))
 
 -- how many sharp edges the walk on meets
 met-count : (k : tie.After-sharp-on) →

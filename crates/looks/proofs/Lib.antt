@@ -1,0 +1,5 @@
+pub mod Found
+pub mod Corners
+pub mod Walks
+pub mod Rims
+pub mod Marking
