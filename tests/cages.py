@@ -112,12 +112,13 @@ def vertices_of(faces):
     return 1 + max(max(f) for f in faces) if faces else 0
 
 
-def accepted(faces):
+def accepted(faces, most=reference.MOST_VALENCE):
+    """By the checks, and with no valence over `most`."""
     try:
-        reference.check_cage(0, flat(faces), [0] * (3 * vertices_of(faces)), reference.WHOLE)
+        mesh = reference.check_cage(0, flat(faces), [0] * (3 * vertices_of(faces)), reference.WHOLE)
     except reference.Refused:
         return False
-    return True
+    return all(len(mesh.ring(v)[1]) <= most for v in range(len(mesh.starts)))
 
 
 def is_closed(faces):
@@ -134,16 +135,16 @@ def mixed(dice, faces):
     return turned
 
 
-def base(dice):
+def base(dice, most):
     kind = dice.below(8)
     if kind == 0:
         return TETRAHEDRON
     if kind == 1:
-        return closed_fan(3 + dice.below(14))
+        return closed_fan(3 + dice.below(most - 2))
     if kind == 2:
-        return open_fan(1 + dice.below(15))
+        return open_fan(1 + dice.below(most - 1))
     if kind == 3:
-        return bipyramid(3 + dice.below(14))
+        return bipyramid(3 + dice.below(most - 2))
     if kind == 4:
         return grid(1 + dice.below(4), 1 + dice.below(4))
     if kind == 5:
@@ -153,16 +154,16 @@ def base(dice):
     return [(0, 1, 2)]
 
 
-def random_faces(dice):
-    """The faces of an accepted cage."""
-    faces = base(dice)
+def random_faces(dice, most=reference.MOST_VALENCE):
+    """The faces of an accepted cage, of valence to `most`."""
+    faces = base(dice, most)
     for _ in range(dice.below(6)):
         step = dice.pick([split, flip, flip, cut_out])
         changed = compact(step(dice, faces))
-        if accepted(changed):
+        if accepted(changed, most):
             faces = changed
     while dice.below(4) == 0 and len(faces) < 60:
-        faces = beside(faces, base(dice))
+        faces = beside(faces, base(dice, most))
     return mixed(dice, faces) if dice.below(4) else faces
 
 

@@ -75,7 +75,7 @@ def pinched(dice):
 
 def many_rays(dice):
     """A hub with one face too many, or more, among other components."""
-    fan = cages.closed_fan(17 + dice.below(4)) if dice.below(2) else cages.open_fan(16 + dice.below(4))
+    fan = cages.closed_fan(25 + dice.below(4)) if dice.below(2) else cages.open_fan(24 + dice.below(4))
     before = small(dice)
     faces = cages.beside(cages.beside(before, fan), small(dice))
     return faces, 12, cages.vertices_of(before), cages.vertices_of(faces)

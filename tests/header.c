@@ -247,8 +247,8 @@ static void make_cages(void) {
     creased(plate("two faces with a sharp edge, 32,768", 7, 1, 1, 0));
     creased(plate("512 faces with sharp edges, 32,768", 3, 16, 16, 0));
     creased(plate("4,026 faces with sharp edges", 1, 61, 33, 0));
-    solved(fan("a closed fan of 16", 16, 1), 17, 16, 16);
-    solved(fan("an open fan of 15", 15, 0), 17, 15, 17);
+    solved(fan("a closed fan of 24", 24, 1), 25, 24, 24);
+    solved(fan("an open fan of 23", 23, 0), 25, 23, 25);
     solved(apart("1,365 faces apart", 1, 1365), 8190, 5460, 8190);
     refused(list("1", 8, "abc", 3), PLATES_TOO_MANY_LEVELS, 0);
     refused(apart("3", 0, 1366), PLATES_CAGE_TOO_LARGE, 1);
@@ -259,8 +259,8 @@ static void make_cages(void) {
     refused(list("8", 0, "abcacb", 3), PLATES_FACE_ON_ANOTHER, 1);
     refused(list("9", 0, "abc", 4), PLATES_VERTEX_ON_NO_FACE, 3);
     refused(list("10", 0, "abcade", 5), PLATES_TWO_FANS, 0);
-    refused(fan("12, closed", 17, 1), PLATES_TOO_MANY_RAYS, 0);
-    refused(fan("12, open", 16, 0), PLATES_TOO_MANY_RAYS, 0);
+    refused(fan("12, closed", 25, 1), PLATES_TOO_MANY_RAYS, 0);
+    refused(fan("12, open", 24, 0), PLATES_TOO_MANY_RAYS, 0);
     refused(apart("13", 7, 3), PLATES_LAST_LEVEL_TOO_LARGE, 0);
 }
 

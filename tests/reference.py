@@ -15,6 +15,7 @@ from functools import lru_cache
 from math import ceil, factorial, lcm
 
 WHOLE, F32 = "whole", "f32"
+MOST_VALENCE = 24
 Counts = namedtuple("Counts", "vertices faces rim_sides")
 Answer = namedtuple("Answer", "counts indices positions normals")
 
@@ -165,7 +166,7 @@ def check_cage(levels, indices, coords, kind):
     first(9, [v for v in range(vertices) if not at[v]])
     first(10, [v for v in range(vertices) if fans(at[v], v) > 1])
     mesh = Mesh.of_cage(indices, vertices)
-    first(12, [v for v in range(vertices) if len(mesh.ring(v)[1]) > 16])
+    first(12, [v for v in range(vertices) if len(mesh.ring(v)[1]) > MOST_VALENCE])
     return mesh
 
 
@@ -389,7 +390,7 @@ def series_value(x, power, last):
 
 HALF_TURN = Fraction(0x3243F6A88, 2**32)
 TABLE = {(k, m): (round(series_value(HALF_TURN * k / m, 0, 20) * 2**24), round(series_value(HALF_TURN * k / m, 1, 21) * 2**24))
-         for m in range(3, 17) for k in range(m + 1)}
+         for m in range(3, MOST_VALENCE + 1) for k in range(m + 1)}
 
 
 def cosine(k, m):

@@ -24,7 +24,7 @@ extern "C" {
 #endif
 
 /* Counts up when something in this file changes, or what a call answers. */
-#define PLATES_VERSION 11
+#define PLATES_VERSION 12
 
 /* The stack that a call may take, in bytes: give a thread as much, and what its own functions take besides. Where a system gives a thread 128 KB, the calls on lists run in it;
    a call on sheets holds the sheet's lists too, the one for rim loops tables of the cage, that on a claim the cage's words. */

@@ -1,7 +1,7 @@
 //! Sine and cosine of k/m of a half turn, k from 0 to 2m, from the table that oracle/make worked out in fractions.
 include!(concat!(env!("CARGO_MANIFEST_DIR"), "/build/table.rs"));
 
-fn entry(table: &[&[i32]; 17], k: usize, m: usize) -> f32 {
+fn entry(table: &[&[i32]; ROWS], k: usize, m: usize) -> f32 {
     table[m][k] as f32 / 16777216.0
 }
 

@@ -15,6 +15,7 @@ pub mod Levels
 pub mod Checks
 pub mod Cage
 pub mod Ends
+pub mod Limits
 pub mod Spokes
 pub mod Weights
 pub mod Growth

@@ -61,7 +61,7 @@ pub all-hold : Hold (
     case (sharpNumbers 1 (2 ∷ 2 ∷ []) plate plate-points) (zs (0 ∷ 0 ∷ 9 ∷ 8 ∷ 8 ∷ [])) ∷
     -- 1 and 12 before it, 13 after it
     case (sharpNumbers 8 (9 ∷ []) plate plate-points) (zs (1 ∷ 0 ∷ 0 ∷ 0 ∷ 0 ∷ [])) ∷
-    case (sharpNumbers 0 (999 ∷ []) (gather (λ i. 0 ∷ (1 + i) ∷ (1 + (i + 1) % 17) ∷ []) (count 0 17)) (anywhere 18)) (zs (12 ∷ 0 ∷ 0 ∷ 0 ∷ 0 ∷ [])) ∷
+    case (sharpNumbers 0 (999 ∷ []) (gather (λ i. 0 ∷ (1 + i) ∷ (1 + (i + 1) % 25) ∷ []) (count 0 25)) (anywhere 26)) (zs (12 ∷ 0 ∷ 0 ∷ 0 ∷ 0 ∷ [])) ∷
     case (sharpNumbers 7 (0 ∷ []) (count 0 9) (anywhere 9)) (zs (18 ∷ 0 ∷ 0 ∷ 0 ∷ 0 ∷ [])) ∷
     case (sharpNumbers 7 [] (count 0 9) (anywhere 9)) (zs (13 ∷ 0 ∷ 0 ∷ 0 ∷ 0 ∷ [])) ∷
     [])

@@ -1,4 +1,4 @@
--- No normal of an accepted cage is a NaN or an infinity: from positions within 2 ^ 48, tangents are within 58 times that, and normals within 2 ^ 109. Assumes nothing.
+-- No normal of an accepted cage is a NaN or an infinity: from positions within 2 ^ 48, tangents are within 90 times that, and normals within 2 ^ 111. Assumes nothing.
 use mathlib.Core.Path.{_≡_, refl, sym, ap, _∙_}
 use Prim.Native.Nat.{ℕ, zero, suc, _+_, _-_, _*_, _/_, _%_, _^_, _≤_, _<_, zero-le, suc-le-suc}
 use native.Mathlib.Nat.{mul-le-mul-right}
@@ -101,6 +101,10 @@ rim-weight-size m k a b h =
 abbrev Sized : ℕ → ℕ → Vec3 → Type 0
 Sized a j p = Size (a * 2 ^ j) 1 (p .x) × (Size (a * 2 ^ j) 1 (p .y) × Size (a * 2 ^ j) 1 (p .z))
 
+-- of points of size at most 2 ^ 17: two with the weight 1 and the others on a rim with at most 4. It stays below 2 ^ 24
+abbrev most : ℕ
+most = (2 + 4 * (mostValence - 2)) * 131072
+
 module _ (j : ℕ) (k : j ≤ 100) where
   plus-size : (a b : ℕ) (p q : Vec3) → a + b < 2 ^ 24 → Sized a j p → Sized b j q → Sized (a + b) j (plus p q)
   plus-size a b p q h s t =
@@ -140,33 +144,33 @@ module _ (j : ℕ) (k : j ≤ 100) where
   unfolding ofBits
   origin-size a = (zero-le, (zero-le, zero-le))
 
-  -- ---- the tangents from points of size at most 2 ^ (18 + j): at most 58 times as large
+  -- ---- the tangents from points of size at most 2 ^ (17 + j): at most 90 times as large
 
-  module _ (rs : List Vec3) (few : length rs ≤ mostValence) (near : (i : ℕ) → i < length rs → Sized 262144 j (getD rs i origin)) where
-    inner-size : 3 ≤ length rs → Sized 15204352 j (innerTangents rs .s) × Sized 15204352 j (innerTangents rs .t)
+  module _ (rs : List Vec3) (few : length rs ≤ mostValence) (near : (i : ℕ) → i < length rs → Sized 131072 j (getD rs i origin)) where
+    inner-size : 3 ≤ length rs → Sized most j (innerTangents rs .s) × Sized most j (innerTangents rs .t)
     inner-size h =
         let n = length rs in
         let c : ℕ → Float = λ i. cosine i n in
         let d : ℕ → Float = λ i. sine i n in
         let z : (i : ℕ) → 0 + i ≡ i = λ i. omega arith in
         let o = origin-size 0 in
-        let s = weighted-size c 262144 1 rs near 0 (λ i l. rw (z i) (cosine-size i n h few l)) 0 origin o (omega arith) in
-        let t = weighted-size d 262144 1 rs near 0 (λ i l. rw (z i) (sine-size i n h few l)) 0 origin o (omega arith) in
-        (lesser (0 + n * (262144 * 1)) 15204352 (weighted c 0 origin rs) (omega arith) s, lesser (0 + n * (262144 * 1)) 15204352 (weighted d 0 origin rs) (omega arith) t)
+        let s = weighted-size c 131072 1 rs near 0 (λ i l. rw (z i) (cosine-size i n h few l)) 0 origin o (omega arith) in
+        let t = weighted-size d 131072 1 rs near 0 (λ i l. rw (z i) (sine-size i n h few l)) 0 origin o (omega arith) in
+        (lesser (0 + n * (131072 * 1)) most (weighted c 0 origin rs) (omega arith) s, lesser (0 + n * (131072 * 1)) most (weighted d 0 origin rs) (omega arith) t)
 
-    many-size : (p : Vec3) (m : ℕ) → length rs ≡ suc m → 4 ≤ m → Sized 15204352 j (rimTangent p rs)
+    many-size : (p : Vec3) (m : ℕ) → length rs ≡ suc m → 4 ≤ m → Sized most j (rimTangent p rs)
     many-size p m e h =
         let a = getD rs 0 origin in
         let b = getD rs m origin in
         let y = scaled (plus a b) (halfSine 1 m) in
         let n = length-part rs 1 (m - 1) (omega arith) in
-        let s = scaled-size 524288 1 (plus a b) (halfSine 1 m) (lit≤ tt) (plus-size 262144 262144 a b (lit≤ tt) (near 0 (omega arith)) (near m (omega arith))) (half-sine-size 1 m (omega arith) (omega arith) (omega arith)) in
-        let at : (i : ℕ) → i < length (part 1 (m - 1) rs) → Sized 262144 j (getD (part 1 (m - 1) rs) i origin) = λ i l. rw (getD-part rs 1 (m - 1) i origin (omega arith)) (near (1 + i) (omega arith)) in
+        let s = scaled-size 262144 1 (plus a b) (halfSine 1 m) (lit≤ tt) (plus-size 131072 131072 a b (lit≤ tt) (near 0 (omega arith)) (near m (omega arith))) (half-sine-size 1 m (omega arith) (omega arith) (omega arith)) in
+        let at : (i : ℕ) → i < length (part 1 (m - 1) rs) → Sized 131072 j (getD (part 1 (m - 1) rs) i origin) = λ i l. rw (getD-part rs 1 (m - 1) i origin (omega arith)) (near (1 + i) (omega arith)) in
         let w : (i : ℕ) → i < length (part 1 (m - 1) rs) → Size 4 1 (rimWeight m (1 + i)) = λ i l. rim-weight-size m (1 + i) (omega arith) (omega arith) (omega arith) in
-        let t = weighted-size (rimWeight m) 262144 4 (part 1 (m - 1) rs) at 1 w 524288 y s (omega arith) in
+        let t = weighted-size (rimWeight m) 131072 4 (part 1 (m - 1) rs) at 1 w 262144 y s (omega arith) in
         rw (rim-many p origin rs m e h)
-        (negated-size 15204352 (weighted (rimWeight m) 1 y (part 1 (m - 1) rs))
-        (lesser (524288 + length (part 1 (m - 1) rs) * (262144 * 4)) 15204352 (weighted (rimWeight m) 1 y (part 1 (m - 1) rs)) (omega arith) t))
+        (negated-size most (weighted (rimWeight m) 1 y (part 1 (m - 1) rs))
+        (lesser (262144 + length (part 1 (m - 1) rs) * (131072 * 4)) most (weighted (rimWeight m) 1 y (part 1 (m - 1) rs)) (omega arith) t))
 
   one-size : Size 1 1 (neg (f32 1))
   unfolding ofInt neg
@@ -176,48 +180,48 @@ module _ (j : ℕ) (k : j ≤ 100) where
   unfolding ofInt neg
   minus-two = lit≤ tt
 
-  rim-size : (p : Vec3) (rs : List Vec3) → length rs ≤ mostValence → Sized 262144 j p → ((i : ℕ) → i < length rs → Sized 262144 j (getD rs i origin)) → Sized 15204352 j (rimTangent p rs)
-  rim-size p [] few s near = origin-size 15204352
-  rim-size p (a ∷ []) few s near = origin-size 15204352
+  rim-size : (p : Vec3) (rs : List Vec3) → length rs ≤ mostValence → Sized 131072 j p → ((i : ℕ) → i < length rs → Sized 131072 j (getD rs i origin)) → Sized most j (rimTangent p rs)
+  rim-size p [] few s near = origin-size most
+  rim-size p (a ∷ []) few s near = origin-size most
   rim-size p (a ∷ b ∷ []) few s near =
-      lesser 1048576 15204352 (minus (plus a b) (scaled p (f32 2))) (lit≤ tt)
-      (minus-size 524288 524288 (plus a b) (scaled p (f32 2)) (lit≤ tt) (plus-size 262144 262144 a b (lit≤ tt) (near 0 (lit≤ tt)) (near 1 (lit≤ tt))) (scaled-size 262144 2 p (f32 2) (lit≤ tt) s two))
-  rim-size p (a ∷ b ∷ c ∷ []) few s near = lesser 524288 15204352 (minus b p) (lit≤ tt) (minus-size 262144 262144 b p (lit≤ tt) (near 1 (lit≤ tt)) s)
+      lesser 524288 most (minus (plus a b) (scaled p (f32 2))) (lit≤ tt)
+      (minus-size 262144 262144 (plus a b) (scaled p (f32 2)) (lit≤ tt) (plus-size 131072 131072 a b (lit≤ tt) (near 0 (lit≤ tt)) (near 1 (lit≤ tt))) (scaled-size 131072 2 p (f32 2) (lit≤ tt) s two))
+  rim-size p (a ∷ b ∷ c ∷ []) few s near = lesser 262144 most (minus b p) (lit≤ tt) (minus-size 131072 131072 b p (lit≤ tt) (near 1 (lit≤ tt)) s)
   rim-size p (a ∷ b ∷ c ∷ d ∷ []) few s near =
       let f = scaled a (neg (f32 1)) in
       let g = plus f (scaled b (f32 2)) in
       let h = plus g (scaled c (f32 2)) in
       let i = plus h (scaled d (neg (f32 1))) in
-      let F = scaled-size 262144 1 a (neg (f32 1)) (lit≤ tt) (near 0 (lit≤ tt)) one-size in
-      let G = plus-size 262144 524288 f (scaled b (f32 2)) (lit≤ tt) F (scaled-size 262144 2 b (f32 2) (lit≤ tt) (near 1 (lit≤ tt)) two) in
-      let H = plus-size 786432 524288 g (scaled c (f32 2)) (lit≤ tt) G (scaled-size 262144 2 c (f32 2) (lit≤ tt) (near 2 (lit≤ tt)) two) in
-      let I = plus-size 1310720 262144 h (scaled d (neg (f32 1))) (lit≤ tt) H (scaled-size 262144 1 d (neg (f32 1)) (lit≤ tt) (near 3 (lit≤ tt)) one-size) in
-      lesser 2097152 15204352 (plus i (scaled p (neg (f32 2)))) (lit≤ tt) (plus-size 1572864 524288 i (scaled p (neg (f32 2))) (lit≤ tt) I (scaled-size 262144 2 p (neg (f32 2)) (lit≤ tt) s minus-two))
+      let F = scaled-size 131072 1 a (neg (f32 1)) (lit≤ tt) (near 0 (lit≤ tt)) one-size in
+      let G = plus-size 131072 262144 f (scaled b (f32 2)) (lit≤ tt) F (scaled-size 131072 2 b (f32 2) (lit≤ tt) (near 1 (lit≤ tt)) two) in
+      let H = plus-size 393216 262144 g (scaled c (f32 2)) (lit≤ tt) G (scaled-size 131072 2 c (f32 2) (lit≤ tt) (near 2 (lit≤ tt)) two) in
+      let I = plus-size 655360 131072 h (scaled d (neg (f32 1))) (lit≤ tt) H (scaled-size 131072 1 d (neg (f32 1)) (lit≤ tt) (near 3 (lit≤ tt)) one-size) in
+      lesser 1048576 most (plus i (scaled p (neg (f32 2)))) (lit≤ tt) (plus-size 786432 262144 i (scaled p (neg (f32 2))) (lit≤ tt) I (scaled-size 131072 2 p (neg (f32 2)) (lit≤ tt) s minus-two))
   rim-size p (a ∷ b ∷ c ∷ d ∷ e ∷ rs) few s near = many-size (a ∷ b ∷ c ∷ d ∷ e ∷ rs) few near p (suc (suc (suc (suc (length rs))))) refl (omega arith)
 
   -- S on the rim
-  ends-size : (rs : List Vec3) → ((i : ℕ) → i < length rs → Sized 262144 j (getD rs i origin)) → Sized 15204352 j (minus (lastOf origin rs) (getD rs 0 origin))
-  ends-size [] near = lesser 0 15204352 (minus origin origin) (lit≤ tt) (minus-size 0 0 origin origin (lit≤ tt) (origin-size 0) (origin-size 0))
+  ends-size : (rs : List Vec3) → ((i : ℕ) → i < length rs → Sized 131072 j (getD rs i origin)) → Sized most j (minus (lastOf origin rs) (getD rs 0 origin))
+  ends-size [] near = lesser 0 most (minus origin origin) (lit≤ tt) (minus-size 0 0 origin origin (lit≤ tt) (origin-size 0) (origin-size 0))
   ends-size (a ∷ rs) near =
-      lesser 524288 15204352 (minus (lastOf a rs) a) (lit≤ tt) (minus-size 262144 262144 (lastOf a rs) a (lit≤ tt) (rw (last-is a origin rs) (near (length rs) (omega arith))) (near 0 (omega arith)))
+      lesser 262144 most (minus (lastOf a rs) a) (lit≤ tt) (minus-size 131072 131072 (lastOf a rs) a (lit≤ tt) (rw (last-is a origin rs) (near (length rs) (omega arith))) (near 0 (omega arith)))
 
 -- ---- S cross T
 
-narrowed-size : (x : Float) → Size (8388608 * 2 ^ 86) 1 x → Size (8388608 * 2 ^ 86) 1 (narrowed x)
+narrowed-size : (x : Float) → Size (8388608 * 2 ^ 88) 1 x → Size (8388608 * 2 ^ 88) 1 (narrowed x)
 unfolding narrowed
 narrowed-size nan p = p
 narrowed-size (inf s) p = p
-narrowed-size (fin s m e) p = round-size binary32 s (m * up e) (down e) 8388608 86 (down-pos e) (omega arith) (lit≤ tt) (lit≤ tt)
+narrowed-size (fin s m e) p = round-size binary32 s (m * up e) (down e) 8388608 88 (down-pos e) (omega arith) (lit≤ tt) (lit≤ tt)
 
-minor-size : (a b c d : Float) → Size (15204352 * 2 ^ 30) 1 a → Size (15204352 * 2 ^ 30) 1 b → Size (15204352 * 2 ^ 30) 1 c → Size (15204352 * 2 ^ 30) 1 d → Size (8388608 * 2 ^ 86) 1 (minor a b c d)
+minor-size : (a b c d : Float) → Size (most * 2 ^ 31) 1 a → Size (most * 2 ^ 31) 1 b → Size (most * 2 ^ 31) 1 c → Size (most * 2 ^ 31) 1 d → Size (8388608 * 2 ^ 88) 1 (minor a b c d)
 minor-size a b c d p q r s =
     narrowed-size (sub binary64 (mul binary64 a b) (mul binary64 c d))
-    (sub-size binary64 4194304 4194304 86 (mul binary64 a b) (mul binary64 c d) (product a b p q) (product c d r s) (lit≤ tt) (lit≤ tt))
+    (sub-size binary64 4194304 4194304 88 (mul binary64 a b) (mul binary64 c d) (product a b p q) (product c d r s) (lit≤ tt) (lit≤ tt))
   where
-    product : (x y : Float) → Size (15204352 * 2 ^ 30) 1 x → Size (15204352 * 2 ^ 30) 1 y → Size (4194304 * 2 ^ 86) 1 (mul binary64 x y)
-    product x y t u = mul-size binary64 (15204352 * 2 ^ 30) 1 (15204352 * 2 ^ 30) 1 4194304 86 x y t u (lit≤ tt) (lit≤ tt) (lit≤ tt) (lit≤ tt) (lit≤ tt)
+    product : (x y : Float) → Size (most * 2 ^ 31) 1 x → Size (most * 2 ^ 31) 1 y → Size (4194304 * 2 ^ 88) 1 (mul binary64 x y)
+    product x y t u = mul-size binary64 (most * 2 ^ 31) 1 (most * 2 ^ 31) 1 4194304 88 x y t u (lit≤ tt) (lit≤ tt) (lit≤ tt) (lit≤ tt) (lit≤ tt)
 
-cross-size : (a b : Vec3) → Sized 15204352 30 a → Sized 15204352 30 b → Sized 8388608 86 (cross a b)
+cross-size : (a b : Vec3) → Sized most 31 a → Sized most 31 b → Sized 8388608 88 (cross a b)
 cross-size a b s t = (
   minor-size (a .y) (b .z) (a .z) (b .y) (s .1 .0) (t .1 .1) (s .1 .1) (t .1 .0),
   (
@@ -229,29 +233,31 @@ cross-size a b s t = (
 -- ---- the normals
 
 module _ (xs : List Float) (near : AllNear 30 xs) where
-  point-size : (v : ℕ) → Sized 262144 30 (point xs v)
-  point-size v = (near .at (3 * v + 0), (near .at (3 * v + 1), near .at (3 * v + 2)))
+  point-size : (v : ℕ) → Sized 131072 31 (point xs v)
+  point-size v =
+      let e : 262144 * 2 ^ 30 ≡ 131072 * 2 ^ 31 = refl in
+      rw (← e) (near .at (3 * v + 0), (near .at (3 * v + 1), near .at (3 * v + 2)))
 
-  points-size : (vs : List ℕ) (i : ℕ) → i < length (map (point xs) vs) → Sized 262144 30 (getD (map (point xs) vs) i origin)
+  points-size : (vs : List ℕ) (i : ℕ) → i < length (map (point xs) vs) → Sized 131072 31 (getD (map (point xs) vs) i origin)
   points-size vs i h = rw (getD-map (point xs) vs i 0 origin (rw (length-map vs (point xs)) at h)) (point-size (getD vs i 0))
 
-  fan-size : (v n : ℕ) (fs : List ℕ) (g : Good v n fs) (u s : ℕ) (f : Fan) → Turned n fs s f → valence f ≤ mostValence → Sized 8388608 86 (normal (tangentsAt fs xs u f))
+  fan-size : (v n : ℕ) (fs : List ℕ) (g : Good v n fs) (u s : ℕ) (f : Fan) → Turned n fs s f → valence f ≤ mostValence → Sized 8388608 88 (normal (tangentsAt fs xs u f))
   fan-size v n fs g u s _ (round cs r) few =
       let vs = ring fs (inner cs) in
       let rs = map (point xs) vs in
       let e : length rs ≡ length cs = length-map vs (point xs) ∙ length-ring fs (inner cs) in
-      let p = inner-size 30 (lit≤ tt) rs (rw e few) (points-size vs) (rw e (inner-three v n fs g s cs r)) in
+      let p = inner-size 31 (lit≤ tt) rs (rw e few) (points-size vs) (rw e (inner-three v n fs g s cs r)) in
       cross-size (innerTangents rs .s) (innerTangents rs .t) (p .0) (p .1)
   fan-size v n fs g u s _ (fringe cs r) few =
       let vs = ring fs (rim cs) in
       let rs = map (point xs) vs in
       let e : length rs ≡ suc (length cs) = length-map vs (point xs) ∙ length-ring fs (rim cs) in
-      cross-size (rimTangents (point xs u) rs .s) (rimTangents (point xs u) rs .t) (ends-size 30 (lit≤ tt) rs (points-size vs)) (rim-size 30 (lit≤ tt) (point xs u) rs (rw e few) (point-size u) (points-size vs))
+      cross-size (rimTangents (point xs u) rs .s) (rimTangents (point xs u) rs .t) (ends-size 31 (lit≤ tt) rs (points-size vs)) (rim-size 31 (lit≤ tt) (point xs u) rs (rw e few) (point-size u) (points-size vs))
 
-three-finite : (a : Vec3) → Sized 8388608 86 a → (c : ℕ) → c < 3 → T (finite (getD (threeOf a) c (f32 0)))
-three-finite a s zero h = finite-of (8388608 * 2 ^ 86) 1 (a .x) (s .0)
-three-finite a s (suc zero) h = finite-of (8388608 * 2 ^ 86) 1 (a .y) (s .1 .0)
-three-finite a s (suc (suc zero)) h = finite-of (8388608 * 2 ^ 86) 1 (a .z) (s .1 .1)
+three-finite : (a : Vec3) → Sized 8388608 88 a → (c : ℕ) → c < 3 → T (finite (getD (threeOf a) c (f32 0)))
+three-finite a s zero h = finite-of (8388608 * 2 ^ 88) 1 (a .x) (s .0)
+three-finite a s (suc zero) h = finite-of (8388608 * 2 ^ 88) 1 (a .y) (s .1 .0)
+three-finite a s (suc (suc zero)) h = finite-of (8388608 * 2 ^ 88) 1 (a .z) (s .1 .1)
 three-finite a s (suc (suc (suc c))) h = absurd (omega arith)
 
 module _ (l : ℕ) (fs : List ℕ) (xs : List Float) (ok : refusal single l fs xs ≡ none) where

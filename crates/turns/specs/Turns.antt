@@ -6,9 +6,9 @@ use lib.Dec.{leb}
 use lib.Ieee.{Float, binary32, div, neg, ofInt}
 use lib.Ieee.Nearest.{closest}
 
--- valence to 16: no turn is cut into more parts
+-- valence to 24: no turn is cut into more parts
 abbrev pub mostValence : ℕ
-mostValence = 16
+mostValence = 24
 
 -- ---- the power series at a / b, its terms over the one denominator b ^ t * t!
 abbrev pub factorial : ℕ → ℕ
