@@ -1,5 +1,5 @@
 //! A safe way into the static library of crate `plates` from Rust, and a small use of it. Built and run by tests/gate-rust.
-//! Nothing checks the declarations below against crates/plates/src/lib.rt: keep the two side by side.
+//! tests/gate-declarations holds the declarations below to crates/plates/src/lib.rt. That a pointer and its length belong together is said at each `unsafe`, and nothing proves it.
 
 /// Why a cage or a sheet was refused: docs/HANDBOOK.md explains each number.
 #[derive(Debug, PartialEq)]
@@ -15,6 +15,24 @@ pub struct Mesh {
     pub rim_sides: u32,
 }
 
+/// In f32, with normals, which are not made unit.
+#[derive(Debug, PartialEq)]
+pub struct FloatMesh {
+    pub positions: Vec<[f32; 3]>,
+    pub normals: Vec<[f32; 3]>,
+    pub faces: Vec<[u32; 3]>,
+    pub rim_sides: u32,
+}
+
+/// Whether a plate made elsewhere passes, or what is wrong first; of a coordinate, counted 3 vertex + axis, the tolerance that it needs.
+#[derive(Debug, PartialEq)]
+pub enum Verdict {
+    Yes,
+    CountsDiffer,
+    FaceDiffers(u32),
+    TooFar { coordinate: u32, needs: u32 },
+}
+
 extern "C" {
     fn plates_loop_subdivide_whole(
         levels: u32,
@@ -25,7 +43,7 @@ extern "C" {
         out: *mut u32, out_len: usize,
         words: *mut u32, words_len: usize,
         work: *mut i32, work_len: usize,
-        told: *mut u32,
+        told: *mut [u32; 5],
     );
     fn plates_loop_subdivide_plain(
         levels: u32,
@@ -36,14 +54,33 @@ extern "C" {
         out: *mut u32, out_len: usize,
         words: *mut u32, words_len: usize,
         work: *mut i32, work_len: usize,
-        told: *mut u32,
+        told: *mut [u32; 5],
+    );
+    fn plates_loop_subdivide(
+        levels: u32,
+        indices: *const u32, indices_len: usize,
+        coords: *const f32, coords_len: usize,
+        positions: *mut f32, positions_len: usize,
+        normals: *mut f32, normals_len: usize,
+        out: *mut u32, out_len: usize,
+        words: *mut u32, words_len: usize,
+        work: *mut f32, work_len: usize,
+        told: *mut [u32; 5],
+    );
+    fn plates_subdivide_sheet(
+        bytes: *const u8, bytes_len: usize,
+        positions: *mut i32, positions_len: usize,
+        out: *mut u32, out_len: usize,
+        words: *mut u32, words_len: usize,
+        work: *mut i32, work_len: usize,
+        told: *mut [u32; 5],
     );
     fn plates_write_sheet(
         levels: u32,
         indices: *const u32, indices_len: usize,
         coords: *const i32, coords_len: usize,
         bytes: *mut u8, bytes_len: usize,
-        told: *mut u32,
+        told: *mut [u32; 3],
     );
     fn plates_subdivide_sheets(
         bytes: *const u8, bytes_len: usize,
@@ -63,19 +100,31 @@ extern "C" {
         words: *mut u32, words_len: usize,
         work: *mut i32, work_len: usize,
         list: *mut u32, list_len: usize,
-        told: *mut u32,
+        told: *mut [u32; 4],
+    );
+    fn plates_accept(
+        levels: u32, tolerance: u32,
+        indices: *const u32, indices_len: usize,
+        coords: *const i32, coords_len: usize,
+        theirs: *const u32, theirs_len: usize,
+        claimed: *const i32, claimed_len: usize,
+        positions: *mut i32, positions_len: usize,
+        out: *mut u32, out_len: usize,
+        words: *mut u32, words_len: usize,
+        work: *mut i32, work_len: usize,
+        told: *mut [u32; 6],
     );
     fn plates_write_obj(
         coords: *const i32, coords_len: usize,
         corners: *const u32, corners_len: usize,
         text: *mut u8, text_len: usize,
-        told: *mut u32,
+        told: *mut [u32; 3],
     );
     fn plates_read_obj(
         text: *const u8, text_len: usize,
         coords: *mut i32, coords_len: usize,
         corners: *mut u32, corners_len: usize,
-        told: *mut u32,
+        told: *mut [u32; 4],
     );
 }
 
@@ -95,6 +144,14 @@ fn threes<T: Copy>(list: &[T]) -> Vec<[T; 3]> {
     list.chunks_exact(3).map(|c| [c[0], c[1], c[2]]).collect()
 }
 
+fn mesh(told: [u32; 5], positions: &[i32], out: &[u32]) -> Result<Mesh, Refusal> {
+    let [number, place, vertices, faces, rim_sides] = told;
+    if number != 0 {
+        return Err(Refusal { number, place });
+    }
+    Ok(Mesh { positions: threes(&positions[..3 * vertices as usize]), faces: threes(&out[..3 * faces as usize]), rim_sides })
+}
+
 /// Of either engine: levels, corners, coordinates, sharp sides, positions, faces, work words, work coordinates, each but the first with its length; and the five numbers.
 type WholeCall = unsafe extern "C" fn(
     u32,
@@ -105,7 +162,7 @@ type WholeCall = unsafe extern "C" fn(
     *mut u32, usize,
     *mut u32, usize,
     *mut i32, usize,
-    *mut u32,
+    *mut [u32; 5],
 );
 
 fn subdivide(call: WholeCall, levels: u32, indices: &[u32], coords: &[i32], sharp: &[u32]) -> Result<Mesh, Refusal> {
@@ -125,16 +182,10 @@ fn subdivide(call: WholeCall, levels: u32, indices: &[u32], coords: &[i32], shar
             out.as_mut_ptr(), out.len(),
             words.as_mut_ptr(), words.len(),
             work.as_mut_ptr(), work.len(),
-            told.as_mut_ptr(),
+            &mut told,
         );
     }
-    let [number, place, vertices, faces, rim_sides] = told;
-    if number != 0 {
-        return Err(Refusal { number, place });
-    }
-    positions.truncate(3 * vertices as usize);
-    out.truncate(3 * faces as usize);
-    Ok(Mesh { positions: threes(&positions), faces: threes(&out), rim_sides })
+    mesh(told, &positions, &out)
 }
 
 /// Whole micrometres, with the edges of the sides in `sharp` (3 face + side) sharp. Every list of numbers gets a mesh or a refusal; nothing has to be checked beforehand. A thread of 112 KB of stack does
@@ -148,6 +199,88 @@ pub fn loop_subdivide_plain(levels: u32, indices: &[u32], coords: &[i32], sharp:
     subdivide(plates_loop_subdivide_plain, levels, indices, coords, sharp)
 }
 
+/// The f32 engine, with normals.
+pub fn loop_subdivide(levels: u32, indices: &[u32], coords: &[f32]) -> Result<FloatMesh, Refusal> {
+    let mut positions = vec![0f32; 3 * MOST];
+    let mut normals = vec![0f32; 3 * MOST];
+    let mut out = vec![0u32; 3 * MOST];
+    let mut words = vec![0u32; 24 * MOST];
+    let mut work = vec![0f32; 6 * MOST];
+    let mut told = [0u32; 5];
+    // SAFETY: as above.
+    unsafe {
+        plates_loop_subdivide(
+            levels,
+            indices.as_ptr(), indices.len(),
+            coords.as_ptr(), coords.len(),
+            positions.as_mut_ptr(), positions.len(),
+            normals.as_mut_ptr(), normals.len(),
+            out.as_mut_ptr(), out.len(),
+            words.as_mut_ptr(), words.len(),
+            work.as_mut_ptr(), work.len(),
+            &mut told,
+        );
+    }
+    let [number, place, vertices, faces, rim_sides] = told;
+    if number != 0 {
+        return Err(Refusal { number, place });
+    }
+    let of_each = 3 * vertices as usize;
+    Ok(FloatMesh { positions: threes(&positions[..of_each]), normals: threes(&normals[..of_each]), faces: threes(&out[..3 * faces as usize]), rim_sides })
+}
+
+/// The whole engine on a sheet, of any bytes.
+pub fn subdivide_sheet(sheet: &[u8]) -> Result<Mesh, Refusal> {
+    let mut positions = vec![0i32; 3 * MOST];
+    let mut out = vec![0u32; 3 * MOST];
+    let mut words = vec![0u32; 24 * MOST];
+    let mut work = vec![0i32; 6 * MOST];
+    let mut told = [0u32; 5];
+    // SAFETY: as above.
+    unsafe {
+        plates_subdivide_sheet(
+            sheet.as_ptr(), sheet.len(),
+            positions.as_mut_ptr(), positions.len(),
+            out.as_mut_ptr(), out.len(),
+            words.as_mut_ptr(), words.len(),
+            work.as_mut_ptr(), work.len(),
+            &mut told,
+        );
+    }
+    mesh(told, &positions, &out)
+}
+
+/// Whether a claim, corners and coordinates of any value, passes as the plate of a cage at level 0 or 1, with a tolerance of 0 to 1,000 micrometres.
+pub fn accept(levels: u32, tolerance: u32, cage: (&[u32], &[i32]), claim: (&[u32], &[i32])) -> Result<Verdict, Refusal> {
+    let mut positions = vec![0i32; 3 * MOST];
+    let mut out = vec![0u32; 3 * MOST];
+    let mut words = vec![0u32; 24 * MOST];
+    let mut work = vec![0i32; 6 * MOST];
+    let mut told = [0u32; 6];
+    // SAFETY: as above.
+    unsafe {
+        plates_accept(
+            levels, tolerance,
+            cage.0.as_ptr(), cage.0.len(),
+            cage.1.as_ptr(), cage.1.len(),
+            claim.0.as_ptr(), claim.0.len(),
+            claim.1.as_ptr(), claim.1.len(),
+            positions.as_mut_ptr(), positions.len(),
+            out.as_mut_ptr(), out.len(),
+            words.as_mut_ptr(), words.len(),
+            work.as_mut_ptr(), work.len(),
+            &mut told,
+        );
+    }
+    match told {
+        [0, _, 1, ..] => Ok(Verdict::Yes),
+        [0, _, _, 1, ..] => Ok(Verdict::CountsDiffer),
+        [0, _, _, 2, face, _] => Ok(Verdict::FaceDiffers(face)),
+        [0, _, _, _, coordinate, needs] => Ok(Verdict::TooFar { coordinate, needs }),
+        [number, place, ..] => Err(Refusal { number, place }),
+    }
+}
+
 /// The sheet of a cage, or why there is none. Every list of numbers gets one or the other.
 pub fn write_sheet(levels: u32, indices: &[u32], coords: &[i32]) -> Result<Vec<u8>, Refusal> {
     let mut bytes = vec![0u8; MOST_BYTES];
@@ -159,7 +292,7 @@ pub fn write_sheet(levels: u32, indices: &[u32], coords: &[i32]) -> Result<Vec<u
             indices.as_ptr(), indices.len(),
             coords.as_ptr(), coords.len(),
             bytes.as_mut_ptr(), bytes.len(),
-            told.as_mut_ptr(),
+            &mut told,
         );
     }
     let [number, place, length] = told;
@@ -228,7 +361,7 @@ pub fn outline(levels: u32, indices: &[u32], coords: &[i32]) -> Result<Vec<Vec<[
             words.as_mut_ptr(), words.len(),
             work.as_mut_ptr(), work.len(),
             list.as_mut_ptr(), list.len(),
-            told.as_mut_ptr(),
+            &mut told,
         );
     }
     let [number, place, loops, _] = told;
@@ -253,7 +386,7 @@ pub fn write_obj(coords: &[i32], corners: &[u32]) -> Result<Vec<u8>, Refusal> {
             coords.as_ptr(), coords.len(),
             corners.as_ptr(), corners.len(),
             text.as_mut_ptr(), text.len(),
-            told.as_mut_ptr(),
+            &mut told,
         );
     }
     let [number, place, length] = told;
@@ -275,7 +408,7 @@ pub fn read_obj(text: &[u8]) -> Result<(Vec<i32>, Vec<u32>), Refusal> {
             text.as_ptr(), text.len(),
             coords.as_mut_ptr(), coords.len(),
             corners.as_mut_ptr(), corners.len(),
-            told.as_mut_ptr(),
+            &mut told,
         );
     }
     let [number, place, vertices, faces] = told;
@@ -344,4 +477,14 @@ fn main() {
         loop_subdivide_plain(*levels, &folded, &points, sharp) == loop_subdivide_whole(*levels, &folded, &points, sharp)
     });
     println!("the plain engine answers as the linked one: {alike}");
+    match loop_subdivide(0, &[0, 1, 2], &[0.0, 0.0, 0.0, 8.0, 0.0, 0.0, 0.0, 8.0, 0.0]) {
+        Ok(mesh) => println!("in f32 vertex 0 at {:?}, its normal {:?}", mesh.positions[0], mesh.normals[0]),
+        Err(r) => println!("refused {} at {}", r.number, r.place),
+    }
+    println!("the sheet is cut as its lists: {}", subdivide_sheet(&sheet) == loop_subdivide_whole(1, &[0, 1, 2], &triangle, &[]));
+    println!("19 bytes of it: {:?}", subdivide_sheet(&sheet[..19]));
+    let cut = [1, 1, 0, 5, 1, 0, 1, 5, 0];
+    for (tolerance, corners) in [(1, [1, 2, 0]), (0, [1, 2, 0]), (1, [1, 0, 2]), (1_001, [0, 1, 2])] {
+        println!("a claim of T at {tolerance}: {:?}", accept(0, tolerance, (&[0, 1, 2], &triangle), (&corners, &cut)));
+    }
 }
