@@ -1,3 +1,4 @@
 pub mod Shut
 pub mod ShutSingle
 pub mod ShutOutlines
+pub mod RefusalCases
