@@ -6,3 +6,4 @@ pub mod OutlinePromises
 pub mod Turned
 pub mod Claims
 pub mod Plain
+pub mod Measure

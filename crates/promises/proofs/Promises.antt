@@ -192,6 +192,12 @@ same-faces l fs xs ys b f ns c d e w s =
       whole-faces l fs xs b c w ∙ ap (λ (a : Mesh). a .faces) m ∙ sym (single-faces l fs ys f ns d s),
     )
 
+-- ---- a sheet that is told to C
+
+pub one-outcome-of-a-sheet-told : (bytes : List ℕ) (b d : Lent (Buffers ℤ)) (told also : List ℕ) → b .old ≡ d .old → Told (SheetCall bytes b) told → Told (SheetCall bytes d) also → told ≡ also × b .new ≡ d .new
+one-outcome-of-a-sheet-told bytes b d told also lent c k =
+    one-outcome-told (SheetCall bytes b) (SheetCall bytes d) (b .new ≡ d .new) (λ r q. one-outcome whole (final whole (sheetLast bytes)) (λ old. sheetOutcome (wholeRoom old) bytes) b d r q lent) told also c k
+
 -- ---- a sheet that succeeds is the whole call on its lists
 
 past-15 : (o : Option Refusal) (x : Outcome) (c : Counts) → unless o x ≡ Success c → x ≡ Success c
