@@ -25,8 +25,9 @@ use Rattle.rules.proofs.Cage.{accepted}
 use Rattle.rules.proofs.Levels.{sound-level, mesh-levels}
 use Rattle.rules.proofs.Spokes.{length-positions}
 use Rattle.loopsubdiv.proofs.Outcomes.{done as answered}
-use Rattle.sheet.specs.Reading.{sheetOf}
+use Rattle.sheet.specs.Reading.{sheetOf, sheetNumber}
 use Rattle.rules.specs.Calls.{sheetLast}
+use Rattle.sheet.specs.declared.Sheet.{Sheet}
 use Rattle.sheet.specs.declared.Sheet.the-variants as sheet
 use Rattle.sheet.proofs.Laws.{good-length}
 
@@ -54,6 +55,14 @@ read b v f l e =
 pub refused-15 : (rooms : Counts → List Room) (b : List ℕ) → sheetOf b ≡ sheet.Refused → sheetOutcome rooms b ≡ Refused (record { number = 15; place = 0 })
 unfolding sheetOf sheetOutcome
 refused-15 rooms b e = rw (taken (badSheet b) unlike′ e .0)
+
+refused-by : (s : Sheet) → sheetNumber s ≡ 15 → s ≡ sheet.Refused
+refused-by (sheet.Is v f l) e = absurd (omega (arith, e))
+refused-by sheet.Refused e = refl
+
+-- the reader's number is the call's
+pub number-15 : (rooms : Counts → List Room) (b : List ℕ) → sheetNumber (sheetOf b) ≡ 15 → sheetOutcome rooms b ≡ Refused (record { number = 15; place = 0 })
+number-15 rooms b e = refused-15 rooms b (refused-by (sheetOf b) e)
 
 -- ---- the lists
 

@@ -10,6 +10,11 @@ use Rattle.sheet.specs.declared.Sheet.the-variants as sheet
 unfoldable pub sheetOf : List ℕ → Sheet
 sheetOf b = pick (badSheet b) sheet.Refused (sheet.Is (sheetVerts b) (sheetFaces b) (sheetLevels b))
 
+-- its number: 15, or 0 where it is a sheet
+abbrev pub sheetNumber : Sheet → ℕ
+sheetNumber (sheet.Is v f l) = 0
+sheetNumber sheet.Refused = 15
+
 -- the bytes of each block; of a refused sheet none
 abbrev pub vertexBytes : Sheet → ℕ
 vertexBytes (sheet.Is v f l) = 12 * v
