@@ -1,4 +1,4 @@
--- What request 7 promises of the whole call, over its definitions alone; and of request 8, that it tells no 11. Assumes nothing.
+-- What request 7 promises of the whole call, over its definitions alone; and of request 8, that it tells no 11.
 use Prim.Native.Nat.{ℕ, _+_, _-_, _*_, _≤_}
 use mathlib.Core.Path.{_≡_, refl, sym, ap, _∙_, subst}
 use mathlib.Core.Logic.{_≢_}

@@ -1,4 +1,4 @@
--- What holds of sheets done one after the other: no later sheet touches what an earlier one left, and what was not taken is as it was. Assumes nothing.
+-- What holds of sheets done one after the other: no later sheet touches what an earlier one left, and what was not taken is as it was.
 use Prim.Native.Nat.{ℕ, _+_, _-_, _*_, _≤_}
 use mathlib.Core.Path.{_≡_, refl, sym, ap, _∙_, subst}
 use mathlib.Core.Bool.{true, false}

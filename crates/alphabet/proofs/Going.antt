@@ -1,4 +1,4 @@
--- One sheet more of the loop: what it leaves is what the definition has next. Assumes nothing.
+-- One sheet more of the loop: what it leaves is what the definition has next.
 use Prim.Native.Nat.{ℕ, suc, _+_, _-_, _*_, _≤_, _<_}
 use mathlib.Core.Path.{_≡_, refl, sym, ap, _∙_}
 use mathlib.Core.List.{List, [], _∷_, _++_, append-nil}

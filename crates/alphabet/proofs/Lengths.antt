@@ -1,4 +1,4 @@
--- Lengths added up one by one, and what 19 asks. Assumes nothing.
+-- Lengths added up one by one, and what 19 asks.
 use Prim.Native.Nat.{ℕ, suc, _+_, _*_, _≤_, _<_}
 use mathlib.Core.Path.{_≡_, refl, sym, ap, _∙_}
 use mathlib.Core.Logic.{_≢_}

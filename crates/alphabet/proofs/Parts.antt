@@ -1,4 +1,4 @@
--- A call that was lent the rest of a buffer from p on, said of the whole buffer. Assumes nothing.
+-- A call that was lent the rest of a buffer from p on, said of the whole buffer.
 use Prim.Native.Nat.{ℕ, _+_, _-_, _≤_}
 use mathlib.Core.Path.{_≡_, refl, sym, ap, _∙_}
 use mathlib.Core.List.{List, [], _∷_, _++_, append-nil}

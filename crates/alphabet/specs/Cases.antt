@@ -1,5 +1,4 @@
 -- 19. Of two bytes: no sheet; lengths that add up to one, two, three; two sheets and a slot for one. Of no bytes: 64 sheets and 65, with slots for all; two sheets with room for two slots, and one entry less.
--- Assumes nothing.
 use mathlib.Core.Path.{_≡_, refl}
 use mathlib.Core.List.{List, [], _∷_, map}
 use Prim.Native.Nat.{ℕ}

@@ -1,4 +1,4 @@
--- Request [7]: up to 64 sheets laid end to end, each done as by a call on it by itself with the room still free. Assumes nothing.
+-- Request [7]: up to 64 sheets laid end to end, each done as by a call on it by itself with the room still free.
 use Prim.Native.Nat.{ℕ, _+_, _*_}
 use mathlib.Core.Path.{_≡_}
 use mathlib.Core.Bool.{Bool, not, _||_}

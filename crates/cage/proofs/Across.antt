@@ -1,4 +1,4 @@
--- The side across, found along a chain; and what check 8 asks, through the link of a face's side 0. Assumes nothing.
+-- The side across, found along a chain; and what check 8 asks, through the link of a face's side 0.
 use mathlib.Core.Path.{_≡_, refl, sym, ap, _∙_}
 use mathlib.Core.Logic.{_≢_}
 use Prim.Native.Nat.{ℕ, _+_, _*_, _/_, _≤_, _<_}

@@ -1,4 +1,4 @@
--- Laws of the chains: what is found along one is what a search of all sides finds. Assumes nothing.
+-- Laws of the chains: what is found along one is what a search of all sides finds.
 use mathlib.Core.Path.{_≡_, refl, sym, ap, _∙_}
 use Prim.Native.Nat.{ℕ, zero, suc, _+_, _-_, _≤_, _<_}
 use native.Mathlib.Omega.{arith}

@@ -1,4 +1,4 @@
--- Starts, corner counts and turns, from the chains and the link words. Assumes nothing.
+-- Starts, corner counts and turns, from the chains and the link words.
 use mathlib.Core.Path.{_≡_, refl, sym, ap, _∙_}
 use Prim.Native.Nat.{ℕ, zero, suc, _+_, _-_, _*_, _/_, _%_, _≤_, _<_}
 use native.Mathlib.Omega.{arith}

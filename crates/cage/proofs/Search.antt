@@ -1,4 +1,4 @@
--- What a search that has come so far says of a check. Assumes nothing.
+-- What a search that has come so far says of a check.
 use mathlib.Core.Path.{_≡_, refl, _∙_}
 use Prim.Native.Nat.{ℕ, _+_, _≤_, _<_}
 use native.Mathlib.Omega.{arith}

@@ -1,4 +1,4 @@
--- Request 6: what check 18 says, and that a list which passes it leaves a cage that passes all else. Assumes nothing.
+-- Request 6: what check 18 says, and that a list which passes it leaves a cage that passes all else.
 use mathlib.Core.Path.{_≡_, refl, sym, ap, _∙_}
 use Prim.Native.Nat.{ℕ, zero, suc, _/_, _≤_, _<_, min}
 use native.Mathlib.Omega.{arith}

@@ -1,4 +1,4 @@
--- Counts known ahead. Assumes nothing.
+-- Counts known ahead.
 use mathlib.Core.Path.{_≡_, refl, sym, ap, ap₂, _∙_}
 use Prim.Native.Nat.{ℕ, suc, _+_, _-_, _*_, _/_, _^_, _≤_, _<_}
 use native.Mathlib.Nat.{pow-le-pow-right}

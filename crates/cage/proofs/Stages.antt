@@ -1,4 +1,4 @@
--- What a stage that passes leaves, and how stages follow each other. Assumes nothing.
+-- What a stage that passes leaves, and how stages follow each other.
 use mathlib.Core.Path.{_≡_, refl, ap, _∙_}
 use mathlib.Core.Logic.{_≢_}
 use Prim.Native.Nat.{ℕ, _*_, _/_, _≤_, _<_}

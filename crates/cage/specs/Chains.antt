@@ -1,4 +1,4 @@
--- Sides by the vertex they leave, chained from each to the one before it. Assumes nothing.
+-- Sides by the vertex they leave, chained from each to the one before it.
 use Prim.Native.Nat.{ℕ, zero, suc, _+_, _-_, _*_, _%_, _≤_, _<_}
 use mathlib.Core.Path.{_≡_}
 use mathlib.Core.Logic.{_≢_}

@@ -1,4 +1,4 @@
--- What the checks of the fans read, and what a turn says to each. Assumes nothing.
+-- What the checks of the fans read, and what a turn says to each.
 use Prim.Native.Nat.{ℕ, _≤_, _<_}
 use mathlib.Core.Path.{_≡_}
 use mathlib.Core.Bool.{Bool}

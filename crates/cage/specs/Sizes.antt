@@ -1,4 +1,4 @@
--- What is counted ahead, and the stages that are left after each. Assumes nothing.
+-- What is counted ahead, and the stages that are left after each.
 use Prim.Native.Nat.{ℕ, _*_, _/_, _^_}
 use mathlib.Core.Path.{_≡_}
 use mathlib.Core.Bool.{_||_}

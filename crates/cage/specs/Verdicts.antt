@@ -1,4 +1,4 @@
--- What a stage of the checks answers. Assumes nothing.
+-- What a stage of the checks answers.
 use mathlib.Core.Option.{Option, none, some}
 use Rattle.rules.specs.declared.Refusal.{Refusal}
 use Rattle.cage.specs.declared.Check.{Check}

@@ -1,4 +1,4 @@
-// For C: the five numbers of document 01, refusal number or 0, place, vertices, faces, rim sides.
+// For C: five numbers (docs/RULES.md, Answers), refusal number or 0, place, vertices, faces, rim sides.
 ghost use mathlib.Core.Path.{_≡_};
 ghost use Rattle.rules.specs.Position.{whole, single};
 ghost use Rattle.rules.specs.Levels.{last};

@@ -1,4 +1,4 @@
-// Document 01, module 5: checks 1 to 13 in the order of its table, the lowest place first. No lent buffer is written here: what a check needs to
+// docs/RULES.md, Answers: checks 1 to 13 in the order of its table, the lowest place first. No lent buffer is written here: what a check needs to
 // remember stands in local arrays.
 ghost use mathlib.Core.Path.{_≡_};
 ghost use Prim.Native.Nat.{_+_, _≤_};

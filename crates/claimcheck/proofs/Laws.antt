@@ -1,4 +1,4 @@
--- A number below zero fits; lists that are equal place by place are equal; what stands in front of a buffer; the verdict with its rim sides; and which refusal comes before all else. Assumes nothing.
+-- A number below zero fits; lists that are equal place by place are equal; what stands in front of a buffer; the verdict with its rim sides; and which refusal comes before all else.
 use Prim.Native.Nat.{ℕ, zero, suc, _+_, _-_, _≤_, _<_}
 use mathlib.Core.Path.{_≡_, refl, sym, ap, _∙_}
 use mathlib.Core.Bool.{Bool, true, false}

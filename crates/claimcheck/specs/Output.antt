@@ -1,4 +1,4 @@
--- What `claimcheck` writes for an input: the verdict on a claim that stands in a listing. Assumes nothing.
+-- What `claimcheck` writes for an input: the verdict on a claim that stands in a listing.
 use Prim.Native.Nat.{ℕ, _+_, _*_, _≤_}
 use mathlib.Core.Path.{_≡_}
 use mathlib.Core.Bool.{Bool, true, false}

@@ -1,4 +1,4 @@
--- Request 6: what the rules give by the count of sharp and rim edges is what the definition gives over the fan. Assumes nothing.
+-- Request 6: what the rules give by the count of sharp and rim edges is what the definition gives over the fan.
 use mathlib.Core.Path.{_≡_, refl, ap, ap₂, _∙_}
 use mathlib.Core.Logic.{_≢_}
 use Prim.Native.Nat.{ℕ, zero, suc, _+_, _-_, _*_, _≤_, _<_}

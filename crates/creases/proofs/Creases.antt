@@ -1,4 +1,4 @@
--- Request 6: the sharp edges at a vertex as the passage round it meets them. Assumes nothing.
+-- Request 6: the sharp edges at a vertex as the passage round it meets them.
 use mathlib.Core.Path.{_≡_, refl, sym, ap, _∙_}
 use Prim.Native.Nat.{ℕ, zero, suc, _+_, _≤_, _<_}
 use native.Mathlib.Omega.{arith}

@@ -1,4 +1,4 @@
--- Request 6: the sharp edges of a rim vertex, from those that the two arms of the passage round it meet. Assumes nothing.
+-- Request 6: the sharp edges of a rim vertex, from those that the two arms of the passage round it meet.
 use mathlib.Core.Path.{_≡_, refl, sym, ap, _∙_}
 use Prim.Native.Nat.{ℕ, suc, _+_, _-_, _*_, _≤_, _<_}
 use native.Mathlib.Omega.{arith}

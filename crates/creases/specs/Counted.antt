@@ -1,4 +1,4 @@
--- Request 6 over lent coordinates: a vertex by how many sharp and rim edges it has. Assumes nothing.
+-- Request 6 over lent coordinates: a vertex by how many sharp and rim edges it has.
 use Prim.Native.Nat.{ℕ}
 use mathlib.Core.Path.{_≡_}
 use mathlib.Core.Bool.{true, false}

@@ -1,4 +1,4 @@
--- Request 6: the new positions of one level with the marks of its sides. Assumes nothing.
+-- Request 6: the new positions of one level with the marks of its sides.
 use Prim.Native.Nat.{ℕ, _+_, _*_, _≤_}
 use mathlib.Core.List.{List}
 use mathlib.Core.Option.{none}

@@ -1,4 +1,4 @@
--- Request 6: what the ring of a vertex says with the marks of sharp edges. Assumes nothing.
+-- Request 6: what the ring of a vertex says with the marks of sharp edges.
 use Prim.Native.Nat.{ℕ, _+_, _*_, _≤_}
 use mathlib.Core.Bool.{Bool}
 use mathlib.Core.List.{List}

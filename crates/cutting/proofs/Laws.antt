@@ -1,4 +1,4 @@
--- What fits the room that is lent, and which of 16 and the rest decides. Assumes nothing.
+-- What fits the room that is lent, and which of 16 and the rest decides.
 use Prim.Native.Nat.{ℕ, _≤_, _<_}
 use mathlib.Core.Path.{_≡_}
 use mathlib.Core.List.{List}

@@ -1,4 +1,4 @@
--- Document 01's sheet of T at level 1, byte for byte, and the whole text that both programs write for it. Assumes nothing.
+-- The sheet of T at level 1, byte for byte, and the whole text that both programs write for it.
 use mathlib.Core.Path.{_≡_, refl}
 use Prim.Native.Nat.{ℕ}
 use mathlib.Core.List.{List, [], _∷_, _++_}

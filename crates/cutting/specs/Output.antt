@@ -1,4 +1,4 @@
--- What `platecut` and `plaincut` write for an input. Assumes nothing.
+-- What `platecut` and `plaincut` write for an input.
 use Prim.Native.Nat.{ℕ}
 use mathlib.Core.List.{List}
 use Rattle.rules.specs.Position.{whole}

@@ -1,4 +1,4 @@
--- The front of a list the other way, by exchanging its two ends, then the next two. Assumes nothing.
+-- The front of a list the other way, by exchanging its two ends, then the next two.
 use mathlib.Core.Path.{_≡_, refl, sym, ap, _∙_}
 use mathlib.Core.Logic.{_≢_}
 use Prim.Native.Nat.{ℕ, suc, _+_, _-_, _≤_, _<_}

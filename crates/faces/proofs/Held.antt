@@ -1,4 +1,4 @@
--- What a caller of the walks and rings has where the words hold a mesh that the checks have passed. Assumes nothing.
+-- What a caller of the walks and rings has where the words hold a mesh that the checks have passed.
 use mathlib.Core.Path.{_≡_, refl, sym, ap, ap₂, _∙_}
 use mathlib.Core.Logic.{_≢_}
 use Prim.Native.Nat.{ℕ, zero, suc, _+_, _*_, _≤_, _<_}

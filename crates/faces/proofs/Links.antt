@@ -1,4 +1,4 @@
--- Laws of link words and of steps. Assumes nothing.
+-- Laws of link words and of steps.
 use mathlib.Core.Path.{_≡_, refl, ap, _∙_}
 use Prim.Native.Nat.{ℕ, zero, suc, _+_, _-_, _*_, _≤_, _<_}
 use native.Mathlib.Omega.{arith}

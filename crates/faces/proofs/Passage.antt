@@ -1,4 +1,4 @@
--- One passage round a vertex gathers its ring: on from the start, and on the rim what was gathered is turned over and the passage goes on backwards from the start. Assumes nothing.
+-- One passage round a vertex gathers its ring: on from the start, and on the rim what was gathered is turned over and the passage goes on backwards from the start.
 use mathlib.Core.Path.{_≡_, refl, sym, ap, ap₂, _∙_}
 use Prim.Native.Nat.{ℕ, zero, suc, _+_, _-_, _*_, _/_, _≤_, _<_}
 use native.Mathlib.Omega.{arith}

@@ -1,5 +1,5 @@
 -- A side number says what the Rust asks of a face: at corner s of face s / 3, whose corners differ, `next_face` and `prev_face` go where the walks go, and `next_vert`
--- and `prev_vert` are what the rings take. Assumes nothing.
+-- and `prev_vert` are what the rings take.
 use mathlib.Core.Path.{_≡_, sym, ap, _∙_}
 use mathlib.Core.Logic.{_≢_}
 use Prim.Native.Nat.{ℕ, _+_, _*_, _/_, _≤_, _<_}

@@ -1,4 +1,4 @@
--- A walk that runs off the rim, taken back from its end, passes the same corners the other way, and goes on from where it began. Assumes nothing.
+-- A walk that runs off the rim, taken back from its end, passes the same corners the other way, and goes on from where it began.
 use mathlib.Core.Path.{_≡_, refl, sym, ap, ap₂, _∙_}
 use mathlib.Core.Logic.{_≢_}
 use Prim.Native.Nat.{ℕ, zero, suc, _+_, _-_, _≤_, _<_}

@@ -1,4 +1,4 @@
--- A ring as its loop stores it. Assumes nothing.
+-- A ring as its loop stores it.
 use mathlib.Core.Path.{_≡_, sym, ap, _∙_}
 use Prim.Native.Nat.{ℕ, _+_, _*_, _<_}
 use native.Mathlib.Omega.{arith}

@@ -1,4 +1,4 @@
--- The corners that a walk over link words passes: where they lie, what follows each, and what they say of the fan. Assumes nothing.
+-- The corners that a walk over link words passes: where they lie, what follows each, and what they say of the fan.
 use mathlib.Core.Path.{_≡_, refl, sym, ap, _∙_, subst}
 use mathlib.Core.Logic.{_≢_}
 use Prim.Native.Nat.{ℕ, zero, suc, _-_, _*_, _/_, _≤_, _<_}

@@ -1,4 +1,4 @@
--- What a walk finds, as its loop goes; and the turn round a vertex of its two walks. Assumes nothing.
+-- What a walk finds, as its loop goes; and the turn round a vertex of its two walks.
 use mathlib.Core.Path.{_≡_, refl, ap}
 use Prim.Native.Nat.{ℕ, zero, suc, _+_, _-_, _/_, _<_}
 use native.Mathlib.Nat.{not-suc-le-zero}

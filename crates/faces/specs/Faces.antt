@@ -1,4 +1,4 @@
--- Document 01, module 2: faces by value. Where the Rust panics, the answer is absent. Assumes nothing.
+-- The Rust's face, by value (docs/RULES.md, What is carried over). Where the Rust panics, the answer is absent.
 use Prim.Native.Nat.{ℕ, _+_, _*_, _/_}
 use mathlib.Core.List.{List}
 use mathlib.Core.Option.{Option, none, some}

@@ -1,4 +1,4 @@
--- What the walks round a vertex answer, of the walks, fans and rings of crate `rules`. Assumes nothing.
+-- What the walks round a vertex answer, of the walks, fans and rings of crate `rules`.
 use Prim.Native.Nat.{ℕ, zero, suc, _+_, _*_, _≤_, _<_}
 use mathlib.Core.Path.{_≡_}
 use mathlib.Core.Logic.{_≢_}

@@ -1,5 +1,5 @@
 -- How a mesh stands in lent words. With F faces and V vertices, from `at` on: 3 F corners, the face list; 3 F link words, one to a side; V start corners.
--- A link word is the side across plus one, and 0 where there is none. Assumes nothing.
+-- A link word is the side across plus one, and 0 where there is none.
 use Prim.Native.Nat.{ℕ, zero, suc, _+_, _*_, _/_, _≤_}
 use mathlib.Core.Path.{_≡_}
 use mathlib.Core.List.{List, map}

@@ -1,4 +1,4 @@
-// Document 01, modules 2 and 3: faces, and the ring of a vertex. A vertex's place in a face is a side number s = 3 f + k, as in crate `rules`.
+// docs/RULES.md, The mesh: faces, and the ring of a vertex. A vertex's place in a face is a side number s = 3 f + k, as in crate `rules`.
 ghost use mathlib.Core.Path.{_≡_};
 ghost use mathlib.Core.Option.{some};
 ghost use mathlib.Core.List.{_++_};
@@ -193,7 +193,7 @@ pub fn load(words: &[u32], corners: usize, links: usize, f: FaceNo) -> Face
     }
 }
 
-// The ring of a vertex: the first n of the numbers that were lent for it are its neighbours, in the order of 01's rule for an inner or a rim vertex.
+// The ring of a vertex: the first n of the numbers that were lent for it are its neighbours, in the order that docs/RULES.md has for an inner or a rim vertex.
 pub struct Ring {
     pub n: usize,
     pub rim: bool,

@@ -1,4 +1,4 @@
--- Slot by slot: a text put into a part of a buffer, and what is left to put. Assumes nothing.
+-- Slot by slot: a text put into a part of a buffer, and what is left to put.
 use Prim.Native.Nat.{ℕ, suc, _+_, _-_, _*_, _≤_, _<_}
 use mathlib.Core.Path.{_≡_, refl, sym, ap, ap₂, _∙_, subst}
 use mathlib.Core.Logic.{_≢_}

@@ -1,4 +1,4 @@
--- Which of 16, 19 and the sheets decides. Assumes nothing.
+-- Which of 16, 19 and the sheets decides.
 use Prim.Native.Nat.{ℕ, _+_, _*_, _≤_, _<_}
 use mathlib.Core.Path.{_≡_, refl, sym, ap, ap₂, _∙_}
 use mathlib.Core.Logic.{_≢_}

@@ -1,4 +1,4 @@
--- The text of the slots that a batch leaves is that of its sheets. Assumes nothing.
+-- The text of the slots that a batch leaves is that of its sheets.
 use Prim.Native.Nat.{ℕ, suc, _+_, _*_, _≤_}
 use mathlib.Core.Path.{_≡_, refl, sym, ap, ap₂, _∙_}
 use mathlib.Core.List.{List, [], _∷_, _++_, append-assoc, append-nil}

@@ -1,4 +1,4 @@
--- What `fontcut` reads, and what it writes for it. Assumes nothing.
+-- What `fontcut` reads, and what it writes for it.
 use Prim.Native.Nat.{ℕ, zero, suc, _+_, _*_}
 use mathlib.Core.Bool.{Bool, _||_}
 use mathlib.Core.List.{List, [], _∷_, _++_}

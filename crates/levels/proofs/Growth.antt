@@ -1,4 +1,4 @@
--- One level over words, step by step: what each step leaves, and that the refined mesh stands there in the end. Assumes nothing.
+-- One level over words, step by step: what each step leaves, and that the refined mesh stands there in the end.
 use Prim.Native.Nat.{ℕ, zero, suc, _+_, _*_, _/_, _≤_, _<_}
 use mathlib.Core.Path.{_≡_, refl, sym, ap, ap₂, _∙_}
 use mathlib.Core.Logic.{_⊎_, ⊎-elim, inl, inr}

@@ -1,4 +1,4 @@
--- Link words, and what they say of a side. Assumes nothing.
+-- Link words, and what they say of a side.
 use Prim.Native.Nat.{ℕ, zero, suc, _+_, _-_, _≤_, _<_}
 use mathlib.Core.Path.{_≡_, refl, _∙_}
 use mathlib.Core.Bool.{Bool, true, false}

@@ -1,4 +1,4 @@
--- The new positions of one level, for both kinds of number: what each point asks and is, and one point more of a loop. Assumes nothing.
+-- The new positions of one level, for both kinds of number: what each point asks and is, and one point more of a loop.
 use Prim.Native.Nat.{ℕ, zero, suc, _+_, _-_, _*_, _≤_, _<_}
 use mathlib.Core.Path.{_≡_, refl, sym, ap, ap₂, _∙_}
 use mathlib.Core.Logic.{⊎-elim, inl, inr}

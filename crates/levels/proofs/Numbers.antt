@@ -1,4 +1,4 @@
--- The numbers of the edges, side by side. Assumes nothing.
+-- The numbers of the edges, side by side.
 use Prim.Native.Nat.{ℕ, _+_, _-_, _≤_, _<_}
 use mathlib.Core.Path.{_≡_, refl, sym, ap, _∙_}
 use mathlib.Core.Logic.{inl}

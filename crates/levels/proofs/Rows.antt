@@ -1,4 +1,4 @@
--- Rows of twelve words, a face at a time: the corners of the children, and their links. Assumes nothing.
+-- Rows of twelve words, a face at a time: the corners of the children, and their links.
 use Prim.Native.Nat.{ℕ, _+_, _*_, _≤_, _<_}
 use mathlib.Core.Path.{_≡_, refl, _∙_}
 use mathlib.Core.Logic.{_⊎_}

@@ -1,4 +1,4 @@
--- For a caller whose words hold a sound mesh: what a level asks, and what it leaves, said of that mesh. Assumes nothing.
+-- For a caller whose words hold a sound mesh: what a level asks, and what it leaves, said of that mesh.
 use Prim.Native.Nat.{ℕ, _+_, _*_, _≤_, _<_}
 use mathlib.Core.Path.{_≡_, sym, ap, ap₂, _∙_}
 use mathlib.Core.Logic.{_⊎_}

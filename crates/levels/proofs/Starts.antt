@@ -1,4 +1,4 @@
--- Start corners: of the old vertices, and of the new ones in the order in which their edges are first met. Assumes nothing.
+-- Start corners: of the old vertices, and of the new ones in the order in which their edges are first met.
 use Prim.Native.Nat.{ℕ, _+_, _≤_, _<_}
 use mathlib.Core.Path.{_≡_, refl, sym, ap, _∙_}
 use mathlib.Core.Logic.{_⊎_, ⊎-elim, inl, inr}

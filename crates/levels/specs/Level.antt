@@ -1,4 +1,4 @@
--- One level over lent words: what a mesh in the words is, what each step of the level writes, and what stands there afterwards. Assumes nothing.
+-- One level over lent words: what a mesh in the words is, what each step of the level writes, and what stands there afterwards.
 use Prim.Native.Nat.{ℕ, _+_, _*_, _≤_, _<_}
 use mathlib.Core.Path.{_≡_}
 use mathlib.Core.Logic.{_⊎_}

@@ -1,4 +1,4 @@
--- The new positions of one level over lent coordinates, three to a vertex, in either kind of number. Assumes nothing.
+-- The new positions of one level over lent coordinates, three to a vertex, in either kind of number.
 use Prim.Native.Nat.{ℕ, _+_, _*_, _≤_, _<_}
 use mathlib.Core.Logic.{_⊎_}
 use mathlib.Core.List.{List}

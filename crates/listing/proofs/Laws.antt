@@ -1,4 +1,4 @@
--- Laws of the text: a numeral is the fewest digits that hold its number, and pieces put one after the other are one piece. Assumes nothing.
+-- Laws of the text: a numeral is the fewest digits that hold its number, and pieces put one after the other are one piece.
 use Prim.Native.Nat.{ℕ, zero, suc, _+_, _-_, _/_, _%_, _^_, _≤_, _<_}
 use mathlib.Core.Path.{_≡_, refl, ap₂, _∙_}
 use mathlib.Core.Bool.{Bool, true, false}

@@ -1,4 +1,4 @@
--- Document 01's own texts, from the definitions. Assumes nothing.
+-- The texts of docs/RULES.md, from the definitions.
 use mathlib.Core.Path.{_≡_, refl}
 use mathlib.Core.List.{List, [], _∷_, _++_, map}
 use Prim.Native.Nat.{ℕ}

@@ -1,5 +1,5 @@
--- Document 01, the text of a plate: "vertices, faces, rim sides; then x y z; then corners"; and "refused 9 at 3". Bytes of ASCII, each line ending in a
--- line feed. Assumes nothing.
+-- docs/RULES.md, Answers: the text of a plate, "vertices, faces, rim sides; then x y z; then corners"; and "refused 9 at 3". Bytes of ASCII, each line ending in a
+-- line feed.
 use Prim.Native.Nat.{ℕ, zero, suc, _+_, _-_, _*_, _/_, _%_}
 use mathlib.Core.Path.{_≡_}
 use mathlib.Core.List.{List, [], _∷_, _++_}

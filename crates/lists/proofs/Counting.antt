@@ -1,4 +1,4 @@
--- Counting: the k-th of those that pass, and as many different numbers that pass as there are. Assumes nothing.
+-- Counting: the k-th of those that pass, and as many different numbers that pass as there are.
 use mathlib.Core.Path.{_≡_, refl, sym, ap, _∙_}
 use mathlib.Core.Logic.{_≢_}
 use Prim.Native.Nat.{ℕ, zero, suc, _+_, _-_, _<_, _≤_, zero-le, suc-le-suc}

@@ -1,4 +1,4 @@
--- Two lists whose elements are related one by one. Assumes nothing.
+-- Two lists whose elements are related one by one.
 use mathlib.Core.Path.{_≡_, refl, ap}
 use Prim.Native.Nat.{ℕ, zero, suc, _<_, suc-le-suc, zero-le}
 use native.Mathlib.Omega.{arith}

@@ -1,4 +1,4 @@
--- Laws of places, searches, pieces and ranks. Assumes nothing.
+-- Laws of places, searches, pieces and ranks.
 use mathlib.Core.Path.{_≡_, refl, sym, ap, ap₂, _∙_}
 use Prim.Native.Nat.{ℕ, zero, suc, _+_, _-_, _*_, _≤_, _<_, min, max, zero-le, suc-le-suc}
 use native.Mathlib.Nat.{add-zero, zero-add, add-suc, le-of-suc-le-suc, not-suc-le-zero, mul-zero, mul-suc}

@@ -1,4 +1,4 @@
--- Laws of stores: runs of them, rows, parts and clearing. Assumes nothing.
+-- Laws of stores: runs of them, rows, parts and clearing.
 use Prim.Native.Nat.{ℕ, zero, suc, _+_, _-_, _*_, _≤_, _<_}
 use mathlib.Core.Path.{_≡_, refl, sym, ap, _∙_}
 use mathlib.Core.Logic.{_⊎_, ⊎-elim, inl, inr}

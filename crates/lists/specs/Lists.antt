@@ -1,5 +1,5 @@
--- Lists as document 01 uses them: places counted from 0, the lowest place where a test passes, how many pass, lists put together from pieces,
--- and stores at the front of a lent buffer. Assumes nothing.
+-- Lists as docs/RULES.md uses them: places counted from 0, the lowest place where a test passes, how many pass, lists put together from pieces,
+-- and stores at the front of a lent buffer.
 use Prim.Native.Nat.{ℕ, zero, suc, _+_}
 use mathlib.Core.Bool.{Bool, true, false}
 use mathlib.Core.List.{List, [], _∷_, _++_}

@@ -1,1 +1,1 @@
-// Lists as document 01 uses them: definitions in specs/, laws in proofs/. No code.
+// Lists as docs/RULES.md uses them: definitions in specs/, laws in proofs/. No code.

@@ -1,4 +1,4 @@
--- The Rust's own questions to a face whose links are looked up: where a vertex stands in it, and what lies across the side that leaves it. Assumes nothing.
+-- The Rust's own questions to a face whose links are looked up: where a vertex stands in it, and what lies across the side that leaves it.
 use mathlib.Core.Path.{_≡_, refl, sym, ap, _∙_}
 use mathlib.Core.Logic.{_≢_}
 use Prim.Native.Nat.{ℕ, _+_, _*_, _/_, _%_, _≤_, _<_}

@@ -1,4 +1,4 @@
--- A side across found by going through the sides. Assumes nothing.
+-- A side across found by going through the sides.
 use mathlib.Core.Path.{_≡_, refl, sym, ap, _∙_}
 use Prim.Native.Nat.{ℕ, suc, _+_, _*_, _%_, _≤_, _<_}
 use mathlib.Core.Logic.{_≢_}

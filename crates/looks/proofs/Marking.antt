@@ -1,4 +1,4 @@
--- A list of sides marked one by one, the side across each found by looking. Assumes nothing.
+-- A list of sides marked one by one, the side across each found by looking.
 use Prim.Native.Nat.{ℕ, _+_, _-_, _*_, _/_, _%_, _≤_, _<_}
 use mathlib.Core.Path.{_≡_, refl, sym, ap, _∙_}
 use mathlib.Core.Logic.{_≢_, inl}

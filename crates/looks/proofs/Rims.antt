@@ -1,4 +1,4 @@
--- The ring of a rim vertex, and what its walk asks. Assumes nothing.
+-- The ring of a rim vertex, and what its walk asks.
 use mathlib.Core.Path.{_≡_, refl, sym, _∙_}
 use Prim.Native.Nat.{ℕ, suc, _+_, _-_, _≤_}
 use native.Mathlib.Omega.{arith}

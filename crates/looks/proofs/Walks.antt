@@ -1,4 +1,4 @@
--- Walks over links that are looked up: the corners they pass. Assumes nothing.
+-- Walks over links that are looked up: the corners they pass.
 use mathlib.Core.Path.{_≡_, refl, ap}
 use Prim.Native.Nat.{ℕ, _+_, _-_, _*_, _/_, _<_}
 use native.Mathlib.Omega.{arith}

@@ -1,4 +1,4 @@
--- What a look reads: a face list in words, and nothing of links. Assumes nothing.
+-- What a look reads: a face list in words, and nothing of links.
 use Prim.Native.Nat.{ℕ, _+_, _*_, _%_, _≤_, _<_}
 use mathlib.Core.Path.{_≡_}
 use mathlib.Core.Logic.{_≢_}

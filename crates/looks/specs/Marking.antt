@@ -1,4 +1,4 @@
--- What marking a list of sides asks where the side across each is found by looking. Assumes nothing.
+-- What marking a list of sides asks where the side across each is found by looking.
 use Prim.Native.Nat.{ℕ, _+_, _*_, _≤_, _<_}
 use mathlib.Core.Path.{_≡_}
 use mathlib.Core.Logic.{_≢_}

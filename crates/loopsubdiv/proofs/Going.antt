@@ -1,4 +1,4 @@
--- The loop over the levels: what holds whenever its test is reached, and one turn of it; for both kinds of number. Assumes nothing.
+-- The loop over the levels: what holds whenever its test is reached, and one turn of it; for both kinds of number.
 use mathlib.Core.Path.{_≡_, refl, sym, ap, _∙_}
 use Prim.Native.Nat.{ℕ, _+_, _*_, _/_, _≤_, _<_}
 use native.Mathlib.Omega.{arith}

@@ -1,4 +1,4 @@
--- The limit of a mesh that stands in the words: one vertex more of a loop; for both kinds of number. Assumes nothing.
+-- The limit of a mesh that stands in the words: one vertex more of a loop; for both kinds of number.
 use mathlib.Core.Path.{_≡_, refl, _∙_}
 use Prim.Native.Nat.{ℕ, _+_, _*_, _<_}
 use native.Mathlib.Omega.{arith}

@@ -1,4 +1,4 @@
--- The normals of the last level, from the limit positions that were written. Assumes nothing.
+-- The normals of the last level, from the limit positions that were written.
 use mathlib.Core.Path.{_≡_, sym, ap, ap₂, _∙_}
 use Prim.Native.Nat.{ℕ, _-_, _*_, _≤_}
 use native.Mathlib.Omega.{arith}

@@ -1,4 +1,4 @@
--- What an outcome says: which refusal it is, or that there is none and every buffer is long enough. Assumes nothing.
+-- What an outcome says: which refusal it is, or that there is none and every buffer is long enough.
 use mathlib.Core.Path.{_≡_, refl}
 use Prim.Native.Nat.{ℕ, _+_, _*_, _≤_}
 use native.Mathlib.Omega.{arith}

@@ -1,4 +1,4 @@
--- Request 6: what an outcome with a list of sharp sides says; and that an empty list is no list. Assumes nothing.
+-- Request 6: what an outcome with a list of sharp sides says; and that an empty list is no list.
 use mathlib.Core.Path.{_≡_, refl, sym, ap, _∙_}
 use Prim.Native.Nat.{ℕ, _+_, _*_, _≤_}
 use native.Mathlib.Omega.{arith}

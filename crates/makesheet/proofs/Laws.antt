@@ -1,4 +1,4 @@
--- Which of 16, 15, the shape and the rest decides; and of request 8, that none is 11. Assumes nothing.
+-- Which of 16, 15, the shape and the rest decides; and of request 8, that none is 11.
 use Prim.Native.Nat.{ℕ, _+_, _-_, _*_, _≤_, _<_}
 use mathlib.Core.Path.{_≡_, refl, sym, _∙_}
 use mathlib.Core.Logic.{_≢_}

@@ -1,4 +1,4 @@
--- What `makesheet` reads: levels, the number of coordinates, the number of corners, then the coordinates and the corners, little endian. Assumes nothing.
+-- What `makesheet` reads: levels, the number of coordinates, the number of corners, then the coordinates and the corners, little endian.
 use Prim.Native.Nat.{ℕ, _+_, _*_}
 use mathlib.Core.Path.{_≡_}
 use mathlib.Core.Bool.{Bool, not, _||_}

@@ -1,4 +1,4 @@
--- Request 6: a list of sides marked one by one, each on both faces. Assumes nothing.
+-- Request 6: a list of sides marked one by one, each on both faces.
 use Prim.Native.Nat.{ℕ, _+_, _-_, _*_, _/_, _%_, _≤_, _<_}
 use mathlib.Core.Path.{_≡_, refl, sym, ap, ap₂, _∙_, subst}
 use mathlib.Core.Logic.{_⊎_, ⊎-elim, inl}

@@ -1,4 +1,4 @@
--- Request 6: the marks in words from level to level. Assumes nothing.
+-- Request 6: the marks in words from level to level.
 use Prim.Native.Nat.{ℕ, zero, suc, _+_, _-_, _*_, _/_, _%_, _≤_, _<_}
 use mathlib.Core.Path.{_≡_, refl, sym, ap, ap₂, _∙_}
 use mathlib.Core.Logic.{_⊎_}

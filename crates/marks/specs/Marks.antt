@@ -1,4 +1,4 @@
--- Request 6: the marks of sharp edges in lent words, one word to a face, bit k the mark of its side k; and what setting them and carrying them on leaves. Assumes nothing.
+-- Request 6: the marks of sharp edges in lent words, one word to a face, bit k the mark of its side k; and what setting them and carrying them on leaves.
 use Prim.Native.Nat.{ℕ, _+_, _*_, _/_, _%_, _≤_, _<_}
 use mathlib.Core.Path.{_≡_}
 use mathlib.Core.Logic.{_⊎_}

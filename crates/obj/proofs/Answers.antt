@@ -1,4 +1,4 @@
--- From what the reader saw to what it answers. Assumes nothing.
+-- From what the reader saw to what it answers.
 use Prim.Native.Nat.{ℕ, zero, suc, _-_, _/_, _≤_, _<_}
 use mathlib.Core.Path.{_≡_, refl, ap}
 use mathlib.Core.Bool.{true}

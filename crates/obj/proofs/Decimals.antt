@@ -1,4 +1,4 @@
--- Laws of numerals: one digit more, and a numeral read back. Assumes nothing.
+-- Laws of numerals: one digit more, and a numeral read back.
 use Prim.Native.Nat.{ℕ, zero, suc, _+_, _-_, _*_, _/_, _%_, _^_, _≤_, _<_}
 use mathlib.Core.Path.{_≡_, sym, ap}
 use mathlib.Core.List.{List, [], _∷_, _++_}

@@ -1,4 +1,4 @@
--- Exactly that form: what is read is the text of its lists. Assumes nothing.
+-- Exactly that form: what is read is the text of its lists.
 use Prim.Native.Nat.{ℕ, zero, suc, _+_, _-_, _*_, _/_, _%_, _≤_}
 use mathlib.Core.Path.{_≡_, refl, sym, ap, _∙_}
 use mathlib.Core.Bool.{true}

@@ -1,4 +1,4 @@
--- What has been read is short: every place fits in 32 bits. Assumes nothing.
+-- What has been read is short: every place fits in 32 bits.
 use Prim.Native.Nat.{ℕ, suc, _+_, _-_, _*_, _%_, _≤_}
 use mathlib.Core.Path.{_≡_, refl}
 use mathlib.Core.Bool.{Bool, true, false}

@@ -1,4 +1,4 @@
--- A passage over the text: what holds before each byte, and what the lists hold then. Assumes nothing.
+-- A passage over the text: what holds before each byte, and what the lists hold then.
 use Prim.Native.Nat.{ℕ, _+_, _-_, _≤_, _<_}
 use mathlib.Core.Path.{_≡_, refl, sym, ap, _∙_}
 use mathlib.Core.Bool.{Bool, true, false}

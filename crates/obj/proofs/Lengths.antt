@@ -1,4 +1,4 @@
--- How long a text can be: 38 bytes to a `v` line, 20 to an `f` line; and which lists have one. Assumes nothing.
+-- How long a text can be: 38 bytes to a `v` line, 20 to an `f` line; and which lists have one.
 use Prim.Native.Nat.{ℕ, zero, suc, _+_, _*_, _/_, _%_, _^_, _≤_, _<_}
 use mathlib.Core.Path.{_≡_, refl, sym, _∙_}
 use mathlib.Core.Bool.{Bool, true, false, not}

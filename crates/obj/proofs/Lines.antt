@@ -1,4 +1,4 @@
--- Laws of the writer: searches that end, a line in its buffer, lines one after the other. Assumes nothing.
+-- Laws of the writer: searches that end, a line in its buffer, lines one after the other.
 use Prim.Native.Nat.{ℕ, zero, suc, _+_, _-_, _/_, _%_, _≤_, _<_}
 use mathlib.Core.Path.{_≡_, refl, sym, ap, _∙_}
 use mathlib.Core.Bool.{Bool, true, false, not, _&&_}

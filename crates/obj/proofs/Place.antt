@@ -1,4 +1,4 @@
--- The place of 23: what has been read so far begins an allowed text, and with the byte there no allowed text begins. Assumes nothing.
+-- The place of 23: what has been read so far begins an allowed text, and with the byte there no allowed text begins.
 use Prim.Native.Nat.{ℕ, suc, _+_, _-_, _/_, _%_, _≤_, _<_}
 use mathlib.Core.Path.{_≡_, refl, sym, ap, _∙_, subst}
 use mathlib.Core.Bool.{Bool, true, false, not}

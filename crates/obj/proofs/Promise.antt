@@ -1,4 +1,4 @@
--- Request [13], of every call that keeps its promise: one outcome, nothing written by a refusal, the rest unchanged, both round trips. Assumes nothing.
+-- Request [13], of every call that keeps its promise: one outcome, nothing written by a refusal, the rest unchanged, both round trips.
 use Prim.Native.Nat.{ℕ, _*_, _/_, _≤_}
 use mathlib.Core.Path.{_≡_, refl, sym, ap, _∙_}
 use mathlib.Core.Bool.{Bool, true, false, _||_}

@@ -1,4 +1,4 @@
--- Reading what was written gives the same mesh, and one text has one mesh. Assumes nothing.
+-- Reading what was written gives the same mesh, and one text has one mesh.
 use Prim.Native.Nat.{ℕ, suc, _+_, _-_, _/_, _%_, _≤_, _<_}
 use mathlib.Core.Path.{_≡_, refl, sym, ap, _∙_}
 use mathlib.Core.Bool.{Bool, true, false, not}

@@ -1,4 +1,4 @@
--- Digits that carry a number on, all at once: what holds before the first of them holds after the last. Assumes nothing.
+-- Digits that carry a number on, all at once: what holds before the first of them holds after the last.
 use Prim.Native.Nat.{ℕ, _+_, _-_, _*_, _/_, _%_, _≤_, _<_}
 use mathlib.Core.Path.{_≡_, refl, sym, ap, _∙_}
 use mathlib.Core.Bool.{Bool, true, false, _&&_}

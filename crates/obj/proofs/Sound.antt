@@ -1,4 +1,4 @@
--- What holds of what has been read, at each spot; and one byte more at a `v` line keeps it and is spelled. Assumes nothing.
+-- What holds of what has been read, at each spot; and one byte more at a `v` line keeps it and is spelled.
 use Prim.Native.Nat.{ℕ, zero, suc, _+_, _-_, _*_, _/_, _%_, _≤_, _<_}
 use mathlib.Core.Path.{_≡_, refl, sym, ap, _∙_}
 use mathlib.Core.Bool.{Bool, true, false, not, _&&_}

@@ -1,4 +1,4 @@
--- Each byte that is read is spelled by what has been read: so a text that is read whole is the text of its lists. Assumes nothing.
+-- Each byte that is read is spelled by what has been read: so a text that is read whole is the text of its lists.
 use Prim.Native.Nat.{ℕ, suc, _+_, _-_, _*_, _%_, _≤_, _<_}
 use mathlib.Core.Path.{_≡_, refl, sym, ap, _∙_}
 use mathlib.Core.Bool.{Bool, true, false, _&&_}

@@ -1,4 +1,4 @@
--- Where a byte leads, test by test as the code makes them. Assumes nothing.
+-- Where a byte leads, test by test as the code makes them.
 use Prim.Native.Nat.{ℕ, _+_, _-_, _*_, _/_, _%_, _≤_, _<_}
 use mathlib.Core.Path.{_≡_, refl, ap}
 use mathlib.Core.Bool.{Bool, true, false, _&&_}

@@ -1,4 +1,4 @@
--- Request [13], the calls: what each answers, and what it leaves. Assumes nothing.
+-- Request [13], the calls: what each answers, and what it leaves.
 use Prim.Native.Nat.{ℕ, _/_}
 use mathlib.Core.Path.{_≡_}
 use mathlib.Core.Bool.{_||_}

@@ -1,4 +1,4 @@
--- Places of 23, texts with their lists, and answers in numbers. Assumes nothing.
+-- Places of 23, texts with their lists, and answers in numbers.
 use mathlib.Core.Path.{_≡_, refl}
 use mathlib.Core.List.{List, [], _∷_, _++_, map}
 use Prim.Native.Nat.{ℕ}

@@ -1,5 +1,4 @@
 -- Request [13], the form: "lines `v x y z` and `f a b c`, vertex numbers from 1, decimal without leading zeros, a line feed after each; vertices first". Bytes of ASCII.
--- Assumes nothing.
 use Prim.Native.Nat.{ℕ, suc, _/_, _%_}
 use mathlib.Core.Bool.{Bool, true, not, _&&_}
 use mathlib.Core.Path.{_≡_}
@@ -16,7 +15,7 @@ use Rattle.listing.specs.Text.{vertexLine, faceLine}
 unfoldable pub objText : List ℤ → List ℕ → List ℕ
 objText xs fs = rows (vertexLine xs) (length xs / 3) ++ rows (faceLine (map suc fs)) (length fs / 3)
 
--- "Coordinates lie in 01's whole range, corners between 1 and the number of `v` lines, and there are at most 32,768 lines of each kind"
+-- "Coordinates lie in .. [the] whole range, corners between 1 and the number of `v` lines, and there are at most 32,768 lines of each kind"
 unfoldable pub hasText : List ℤ → List ℕ → Bool
 hasText xs fs =
     eqb (length xs % 3) 0 && eqb (length fs % 3) 0 && leb (length xs / 3) mostInMesh && leb (length fs / 3) mostInMesh

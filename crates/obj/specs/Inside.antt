@@ -1,4 +1,4 @@
--- The reader and the writer from inside: the number that a byte ends, digits that carry one on, what a passage over the text sees. Assumes nothing.
+-- The reader and the writer from inside: the number that a byte ends, digits that carry one on, what a passage over the text sees.
 use Prim.Native.Nat.{ℕ, _+_, _-_, _*_, _<_}
 use mathlib.Core.Path.{_≡_}
 use mathlib.Core.Bool.{Bool, true, false}

@@ -1,4 +1,4 @@
--- Request [13], reading: one byte after the other, from what has been read so far; "the first byte where no allowed text can go on". Assumes nothing.
+-- Request [13], reading: one byte after the other, from what has been read so far; "the first byte where no allowed text can go on".
 use Prim.Native.Nat.{ℕ, zero, suc, _+_, _-_, _*_, _/_, _%_}
 use mathlib.Core.Bool.{Bool, true, false, _&&_}
 use mathlib.Core.List.{List, [], _∷_, _++_}

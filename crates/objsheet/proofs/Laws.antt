@@ -1,4 +1,4 @@
--- What decides what `objsheet` makes: 16, the reader, the writer. 24 is never answered. Assumes nothing.
+-- What decides what `objsheet` makes: 16, the reader, the writer. 24 is never answered.
 use Prim.Native.Nat.{ℕ, _-_, _*_, _≤_, _<_}
 use mathlib.Core.Path.{_≡_, refl, sym, ap, _∙_, subst}
 use mathlib.Core.Bool.{Bool, true, false}

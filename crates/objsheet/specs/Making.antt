@@ -1,4 +1,4 @@
--- What `objsheet` makes of a number of levels and an OBJ text. Assumes nothing.
+-- What `objsheet` makes of a number of levels and an OBJ text.
 use Prim.Native.Nat.{ℕ, _-_}
 use mathlib.Core.Path.{_≡_}
 use mathlib.Core.List.{List, [], _∷_}

@@ -1,4 +1,4 @@
--- Which of 16, 15 and the sheet's lists decides; and what a call that succeeds has listed. Assumes nothing.
+-- Which of 16, 15 and the sheet's lists decides; and what a call that succeeds has listed.
 use Prim.Native.Nat.{ℕ, _+_, _*_, _≤_, _<_}
 use mathlib.Core.Path.{_≡_, refl, ap, _∙_}
 use mathlib.Core.Bool.{true, false}

@@ -1,4 +1,4 @@
--- A listing as text, entry by entry. Assumes nothing.
+-- A listing as text, entry by entry.
 use Prim.Native.Nat.{ℕ, zero, suc, _+_, _-_, _*_, _≤_, _<_}
 use mathlib.Core.Path.{_≡_, refl, sym, ap, ap₂, _∙_, subst}
 use mathlib.Core.Logic.{_≢_}

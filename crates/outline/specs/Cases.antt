@@ -1,4 +1,4 @@
--- The sheet of T at level 1, and the whole text that `outline` writes for it. Assumes nothing.
+-- The sheet of T at level 1, and the whole text that `outline` writes for it.
 use mathlib.Core.Path.{_≡_, refl}
 use Prim.Native.Nat.{ℕ}
 use mathlib.Core.List.{List, [], _∷_, _++_}

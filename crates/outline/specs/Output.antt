@@ -1,4 +1,4 @@
--- What `outline` writes for a sheet: how many loops and points; then of each loop its length and its points, in order along the rim. Assumes nothing.
+-- What `outline` writes for a sheet: how many loops and points; then of each loop its length and its points, in order along the rim.
 use Prim.Native.Nat.{ℕ, _-_, _<_}
 use mathlib.Core.Logic.{_≢_}
 use mathlib.Core.List.{List, [], _∷_, _++_}

@@ -1,4 +1,4 @@
--- An accepted cage: what the functions ask of it, and what goes into the list and how long that is. Assumes nothing.
+-- An accepted cage: what the functions ask of it, and what goes into the list and how long that is.
 use mathlib.Core.Path.{_≡_, refl, sym, ap, _∙_}
 use Prim.Native.Nat.{ℕ, zero, suc, _+_, _*_, _/_, _<_, _≤_}
 use native.Mathlib.Omega.{arith}

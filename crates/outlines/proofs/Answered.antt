@@ -1,4 +1,4 @@
--- What an answer says: the needed length over the control cage, the loops as an outline, a closed cage, and which outcome stands behind an answer. Assumes nothing.
+-- What an answer says: the needed length over the control cage, the loops as an outline, a closed cage, and which outcome stands behind an answer.
 use mathlib.Core.Path.{_≡_, refl, sym, ap, _∙_}
 use Prim.Native.Nat.{ℕ, _+_, _*_, _/_, _^_, _<_, _≤_}
 use native.Mathlib.Omega.{arith}

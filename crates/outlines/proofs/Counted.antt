@@ -1,4 +1,4 @@
--- How many vertices are listed: as many as there are rim sides, loop by loop. Assumes nothing.
+-- How many vertices are listed: as many as there are rim sides, loop by loop.
 use mathlib.Core.Path.{_≡_, refl, sym, ap, _∙_}
 use mathlib.Core.Logic.{_≢_, _⊎_, inl, inr}
 use Prim.Native.Nat.{ℕ, zero, suc, _+_, _*_, _<_, zero-le, suc-le-suc}

@@ -1,4 +1,4 @@
--- One level: each side of a loop becomes its two halves, in place. Assumes nothing.
+-- One level: each side of a loop becomes its two halves, in place.
 use mathlib.Core.Path.{_≡_, refl, sym, ap, _∙_}
 use mathlib.Core.Logic.{_≢_}
 use Prim.Native.Nat.{ℕ, zero, suc, _+_, _*_, _/_}

@@ -1,4 +1,4 @@
--- The loops are an outline: each follows the rim from its lowest vertex, in order, and every rim side stands in exactly one. Assumes nothing.
+-- The loops are an outline: each follows the rim from its lowest vertex, in order, and every rim side stands in exactly one.
 use mathlib.Core.Path.{_≡_, refl, sym, ap, _∙_}
 use mathlib.Core.Logic.{_≢_}
 use Prim.Native.Nat.{ℕ, zero, suc, _+_, _-_, _*_, _/_, _%_, _<_, _≤_}

@@ -1,4 +1,4 @@
--- The loops after l levels, from the loops of the control cage: each side in its 2^l pieces, loop by loop. Assumes nothing.
+-- The loops after l levels, from the loops of the control cage: each side in its 2^l pieces, loop by loop.
 use mathlib.Core.Path.{_≡_, refl, sym, ap, _∙_}
 use Prim.Native.Nat.{ℕ, zero, suc, _+_, _*_, _<_}
 use native.Mathlib.Omega.{arith}

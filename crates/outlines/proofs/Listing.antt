@@ -1,4 +1,4 @@
--- What goes into the list, and where. Assumes nothing.
+-- What goes into the list, and where.
 use mathlib.Core.Path.{_≡_, refl, sym, ap, _∙_}
 use Prim.Native.Nat.{ℕ, zero, suc, _+_, _-_, _*_, _^_, _<_, _≤_}
 use native.Mathlib.Omega.{arith}

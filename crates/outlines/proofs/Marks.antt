@@ -1,4 +1,4 @@
--- Marks tell where loops begin: a loop not met before begins where it is met first. Assumes nothing.
+-- Marks tell where loops begin: a loop not met before begins where it is met first.
 use mathlib.Core.Path.{_≡_, refl, sym, ap, _∙_}
 use mathlib.Core.Logic.{_≢_}
 use Prim.Native.Nat.{ℕ, suc, _+_, _-_, _<_, _≤_}

@@ -1,4 +1,4 @@
--- A loop as the sides met by going on from one of them: each side of a loop has the same loop, turned. Assumes nothing.
+-- A loop as the sides met by going on from one of them: each side of a loop has the same loop, turned.
 use mathlib.Core.Path.{_≡_, refl, sym, ap, _∙_}
 use Prim.Native.Nat.{ℕ, zero, suc, _+_, _-_, _*_, _/_, _%_, _<_, _≤_, zero-le, suc-le-suc}
 use native.Mathlib.Nat.{not-suc-le-zero, div-add-mod', mod-lt}

@@ -1,4 +1,4 @@
--- One level keeps the vertex at which a loop begins, and so the order of the loops; no loop begins at a new vertex. Assumes nothing.
+-- One level keeps the vertex at which a loop begins, and so the order of the loops; no loop begins at a new vertex.
 use mathlib.Core.Path.{_≡_, refl, sym, ap, _∙_}
 use mathlib.Core.Logic.{_≢_}
 use Prim.Native.Nat.{ℕ, zero, suc, _+_, _-_, _*_, _<_, _≤_}

@@ -1,4 +1,4 @@
--- In a sound mesh one rim side at most leaves a vertex and one at most comes to it, and where one comes one leaves; so the rim falls into loops. Assumes nothing.
+-- In a sound mesh one rim side at most leaves a vertex and one at most comes to it, and where one comes one leaves; so the rim falls into loops.
 use mathlib.Core.Path.{_≡_, refl, sym, ap, _∙_}
 use mathlib.Core.Logic.{_≢_}
 use Prim.Native.Nat.{ℕ, zero, suc, _-_, _*_, _<_, _≤_, zero-le, suc-le-suc}

@@ -1,4 +1,4 @@
--- The request's relation holds of one list only: in a sound mesh, two lists of loops that are outlines of it are equal. Assumes nothing.
+-- The request's relation holds of one list only: in a sound mesh, two lists of loops that are outlines of it are equal.
 use mathlib.Core.Path.{_≡_, refl, sym, ap, _∙_}
 use Prim.Native.Nat.{ℕ, zero, suc, _+_, _%_, _<_, _≤_, zero-le, suc-le-suc}
 use native.Mathlib.Nat.{not-suc-le-zero, mod-lt}

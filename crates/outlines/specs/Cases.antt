@@ -1,4 +1,4 @@
--- Request [9]: the lists of small cages, worked out by hand. Assumes nothing.
+-- Request [9]: the lists of small cages, worked out by hand.
 use mathlib.Core.Path.{_≡_, refl}
 use mathlib.Core.List.{List, [], _∷_, map}
 use Prim.Native.Nat.{ℕ}

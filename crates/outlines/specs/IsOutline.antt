@@ -1,4 +1,4 @@
--- Request [9] as a relation: what a list of loops is to a mesh. Assumes nothing.
+-- Request [9] as a relation: what a list of loops is to a mesh.
 use Prim.Native.Nat.{ℕ, _+_, _%_, _<_}
 use mathlib.Core.Path.{_≡_}
 use mathlib.Core.List.{List, []}

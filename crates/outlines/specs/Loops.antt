@@ -1,4 +1,4 @@
--- Request [9], "Rims as outlines": the rim loops of a mesh, what `rim_loops` answers and what it leaves. Assumes nothing.
+-- Request [9], "Rims as outlines": the rim loops of a mesh, what `rim_loops` answers and what it leaves.
 use Prim.Native.Nat.{ℕ}
 use mathlib.Core.Path.{_≡_}
 use mathlib.Core.Bool.{Bool, not, _&&_}
@@ -64,7 +64,7 @@ listing rs = gather (λ r. length r ∷ r) rs
 abbrev pub outlineOf : List (List ℕ) → Outline
 outlineOf rs = record { loops = length rs; listed = length (gather (λ r. r) rs) }
 
--- ---- "01's refusals unchanged"; then 20, "list room short", of n entries
+-- ---- the refusals of the whole call "unchanged"; then 20, "list room short", of n entries
 
 abbrev pub withList : ℕ → ℕ → Outcome → Outcome
 withList n needed (Success c) = pick (ltb n needed) (Refused (record { number = 20; place = 0 })) (Success c)
@@ -83,7 +83,7 @@ abbrev pub traced : Outcome → List (List ℕ) → Traced
 traced (Success c) rs = Outlined (outlineOf rs)
 traced (Refused r) rs = NotOutlined r
 
--- ---- what the call promises: "01's buffers .. as the whole call does", and the list
+-- ---- what the call promises: the buffers "as the whole call does", and the list
 
 -- `rim_loops`: levels, face list, coordinates, the buffers, the list, the answer
 pub record OutlineCall (l : ℕ) (fs : List ℕ) (xs : List ℤ) (b : Lent (Buffers ℤ)) (list : Lent (List ℕ)) (r : Traced) : Type 0 where

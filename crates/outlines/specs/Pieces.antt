@@ -1,4 +1,4 @@
--- What the functions that follow the rim promise each other: the pieces of a side, the rim side that leaves each vertex, marks. Assumes nothing.
+-- What the functions that follow the rim promise each other: the pieces of a side, the rim side that leaves each vertex, marks.
 use Prim.Native.Nat.{ℕ, zero, suc, _+_, _*_, _/_, _<_, _≤_}
 use mathlib.Core.Path.{_≡_}
 use mathlib.Core.Logic.{_≢_}

@@ -1,5 +1,5 @@
 -- Request 12: the laws of a mesh with links are cited over words that nobody has: those of the plain engine, with what looking finds put in where the linked engine
--- would keep it. Assumes nothing.
+-- would keep it.
 use Prim.Native.Nat.{ℕ, _+_, _-_, _*_, _/_, _≤_, _<_}
 use mathlib.Core.Path.{_≡_, refl, sym, ap, ap₂, _∙_}
 use mathlib.Core.Logic.{inl, inr}

@@ -1,5 +1,5 @@
 -- Request 12: the loop over the levels, without links: what holds whenever its test is reached, and one turn of it. Of each turn the laws of crate `sharp` are cited
--- over the words with their links put in. Assumes nothing.
+-- over the words with their links put in.
 use mathlib.Core.Path.{_≡_, refl, sym, ap, ap₂, _∙_, subst}
 use mathlib.Core.Logic.{_⊎_, inl, inr}
 use Prim.Native.Nat.{ℕ, _+_, _-_, _*_, _/_, _≤_, _<_}

@@ -1,4 +1,4 @@
--- Request 12: one level over words without links, step by step: what each step leaves, and that the refined mesh stands there in the end. Assumes nothing.
+-- Request 12: one level over words without links, step by step: what each step leaves, and that the refined mesh stands there in the end.
 use Prim.Native.Nat.{ℕ, _+_, _*_, _/_, _≤_}
 use mathlib.Core.Path.{_≡_, ap, ap₂, _∙_}
 use mathlib.Core.Logic.{_⊎_, ⊎-elim, inl, inr}

@@ -1,4 +1,4 @@
--- Request 12: the last level that goes out, without links: the laws of crate `sharp` over the words with their links put in. Assumes nothing.
+-- Request 12: the last level that goes out, without links: the laws of crate `sharp` over the words with their links put in.
 use mathlib.Core.Path.{_≡_, sym, ap, ap₂, _∙_, subst}
 use Prim.Native.Nat.{ℕ, _+_, _-_, _*_, _%_, _≤_}
 use native.Mathlib.Omega.{arith}

@@ -1,4 +1,4 @@
--- Request 12: the numbers and the start corners of the edges, side by side, where the side across is looked up. Assumes nothing.
+-- Request 12: the numbers and the start corners of the edges, side by side, where the side across is looked up.
 use Prim.Native.Nat.{ℕ, _+_, _-_, _≤_, _<_}
 use mathlib.Core.Path.{_≡_, refl, sym, ap, _∙_}
 use mathlib.Core.Logic.{_⊎_, ⊎-elim, inl, inr}

@@ -1,4 +1,4 @@
--- Request 12: what the lent work buffers hold while the plain call runs: as in `sharp`, without links. Assumes nothing.
+-- Request 12: what the lent work buffers hold while the plain call runs: as in `sharp`, without links.
 use Prim.Native.Nat.{ℕ, _-_, _*_}
 use mathlib.Core.Path.{_≡_}
 use mathlib.Core.List.{List}

@@ -1,4 +1,4 @@
--- Request 12: one level over lent words that hold no links: what a mesh in the words is, what a level asks, and what stands there afterwards. Assumes nothing.
+-- Request 12: one level over lent words that hold no links: what a mesh in the words is, what a level asks, and what stands there afterwards.
 use Prim.Native.Nat.{ℕ, _+_, _*_, _≤_, _<_}
 use mathlib.Core.Path.{_≡_}
 use mathlib.Core.Logic.{_⊎_}

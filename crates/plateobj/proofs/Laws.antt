@@ -1,4 +1,4 @@
--- What fits the room that is lent, which of 16 and the rest decides, and that every plate has a text. Assumes nothing.
+-- What fits the room that is lent, which of 16 and the rest decides, and that every plate has a text.
 use Prim.Native.Nat.{ℕ, _/_, _≤_, _<_}
 use mathlib.Core.Path.{_≡_, refl, sym, ap, _∙_}
 use mathlib.Core.Bool.{true}

@@ -1,4 +1,4 @@
--- What `plateobj` writes for an input. Assumes nothing.
+-- What `plateobj` writes for an input.
 use Prim.Native.Nat.{ℕ}
 use mathlib.Core.List.{List}
 use lib.Dec.{ltb}

@@ -1,5 +1,5 @@
 -- Request [10], of every call that keeps the station's promise: one outcome, an answer to every claim, nothing written by a refusal, the buffers as the whole call leaves them, a yes exactly
--- when the claim passes, and what a no names. Assumes nothing.
+-- when the claim passes, and what a no names.
 use mathlib.Core.Path.{_≡_, refl, sym, ap, _∙_}
 use mathlib.Core.Logic.{_≢_}
 use Prim.Native.Nat.{ℕ, _+_, _*_, _/_, _<_, _≤_}

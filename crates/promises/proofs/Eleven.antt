@@ -1,4 +1,4 @@
--- Request 8: no call answers 11, and C is never told it. Assumes nothing.
+-- Request 8: no call answers 11, and C is never told it.
 use mathlib.Core.Path.{_≡_, sym, ap, _∙_}
 use mathlib.Core.Logic.{_≢_}
 use Prim.Native.Nat.{ℕ}

@@ -1,4 +1,4 @@
--- The whole call with sharp sides: what its list can change, and what it cannot; demand 3, and a proof and a plate of one cage. Assumes nothing.
+-- The whole call with sharp sides: what its list can change, and what it cannot; demand 3, and a proof and a plate of one cage.
 use mathlib.Core.Path.{_≡_, refl, sym, ap, _∙_}
 use Prim.Native.Nat.{ℕ, _+_, _*_, _/_, _<_, _≤_}
 use native.Mathlib.Omega.{arith}

@@ -1,4 +1,4 @@
--- Demand 3's measure tells a number at the bound from one past it; and the bound is met. Assumes nothing.
+-- Demand 3's measure tells a number at the bound from one past it; and the bound is met.
 use mathlib.Core.Path.{_≡_, refl}
 use native.Mathlib.Omega.{arith}
 use mathlib.Core.List.{List, [], _∷_}

@@ -1,5 +1,5 @@
 -- What the promise of `rim_loops` says: one outcome, an answer to every call, nothing written by a refusal, the whole call's own answer but for 20, when 20 is answered, and that the
--- list holds the one outline of the last level. Assumes nothing.
+-- list holds the one outline of the last level.
 use mathlib.Core.Path.{_≡_, refl, sym, ap, _∙_, subst}
 use mathlib.Core.Logic.{_≢_}
 use Prim.Native.Nat.{ℕ, _+_, _*_, _/_, _^_, _<_, _≤_}

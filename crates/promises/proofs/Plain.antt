@@ -1,5 +1,5 @@
 -- Request [12]: the plain call and the linked one. `plain::loop_subdivide_plain` and `loopsubdiv::loop_subdivide_whole` promise `SharpCall`, their twins for C `Told` of it,
--- `sheet::subdivide_sheet_plain` and `sheet::subdivide_sheet` `SheetCall`; lent the same, they answer the same and leave the same in every buffer. Assumes nothing.
+-- `sheet::subdivide_sheet_plain` and `sheet::subdivide_sheet` `SheetCall`; lent the same, they answer the same and leave the same in every buffer.
 use mathlib.Core.Path.{_≡_}
 use Prim.Native.Nat.{ℕ}
 use mathlib.Core.List.{List}

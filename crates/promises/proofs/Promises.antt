@@ -1,5 +1,5 @@
 -- What the promises say together: one outcome for each call, an answer to every call, nothing written by a refusal, the counts of the last level, and demand 3 of the
--- numbers that stand in the positions buffer. Assumes nothing.
+-- numbers that stand in the positions buffer.
 use mathlib.Core.Path.{_≡_, refl, sym, ap, _∙_}
 use Prim.Native.Nat.{ℕ, _+_, _*_, _/_, _^_, _<_, _≤_}
 use native.Mathlib.Omega.{arith}

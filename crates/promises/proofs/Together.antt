@@ -1,4 +1,4 @@
--- A proof and a plate of one cage: two calls of the whole engine, at two numbers of levels. Assumes nothing.
+-- A proof and a plate of one cage: two calls of the whole engine, at two numbers of levels.
 use Prim.Native.Nat.{ℕ, zero, suc, _+_, _*_, _/_, _<_, _≤_}
 use native.Mathlib.Omega.{arith}
 use mathlib.Core.List.{List}

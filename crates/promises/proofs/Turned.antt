@@ -1,4 +1,4 @@
--- Turning the plate: two whole calls, on a cage and on that cage turned, with one list of sharp sides. Assumes nothing.
+-- Turning the plate: two whole calls, on a cage and on that cage turned, with one list of sharp sides.
 use mathlib.Core.Path.{_≡_, sym, ap, _∙_}
 use Prim.Native.Nat.{ℕ, _*_}
 use mathlib.Core.List.{List}

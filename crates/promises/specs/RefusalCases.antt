@@ -1,5 +1,5 @@
 -- The refusals on both sides of each limit and at each place: one table, and one statement, so that a limit, a place or a needed length that is changed in definition and code alike
--- breaks a row. 7, 8, 9 and 10 stand with the cases P (rules/Cases), more of 18 with request [6] (rules/SharpCases), 17 in writer/Cases, 19 in alphabet/Cases, 22 to 25 in obj/Cases. Assumes nothing.
+-- breaks a row. 7, 8, 9 and 10 stand with the cases P (rules/Cases), more of 18 with request [6] (rules/SharpCases), 17 in writer/Cases, 19 in alphabet/Cases, 22 to 25 in obj/Cases.
 use mathlib.Core.Path.{refl}
 use Prim.Native.Nat.{ℕ, _+_, _*_, _%_}
 use mathlib.Core.List.{List, [], _∷_, _++_, map}

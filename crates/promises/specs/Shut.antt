@@ -1,4 +1,4 @@
--- Document 01, "Shut out by name": on T or H the promise of the whole call has no room for such an answer, since the definition computes to another. Assumes nothing.
+-- Wrong answers shut out by name: on T or H the promise of the whole call has no room for such an answer, since the definition computes to another.
 use mathlib.Core.Path.{_≡_, refl, sym, ap, _∙_}
 use mathlib.Core.Logic.{_≢_}
 use Prim.Native.Nat.{ℕ}

@@ -1,4 +1,4 @@
--- Request [9], wrong answers shut out by name: on T the promise of `rim_loops` has room for one answer and one list, since the definition computes to them. Assumes nothing.
+-- Request [9], wrong answers shut out by name: on T the promise of `rim_loops` has room for one answer and one list, since the definition computes to them.
 use mathlib.Core.Path.{_≡_, refl, ap, _∙_}
 use mathlib.Core.Logic.{_≢_}
 use Prim.Native.Nat.{ℕ}

@@ -1,4 +1,4 @@
--- Document 01, "Shut out by name", of the f32 call: as in Shut, on the same cages, with normals. Floats are told apart by their bits. Assumes nothing.
+-- Wrong answers shut out by name, of the f32 call: as in Shut, on the same cages, with normals. Floats are told apart by their bits.
 use mathlib.Core.Path.{_≡_, refl, sym, ap, _∙_}
 use mathlib.Core.Logic.{_≢_}
 use Prim.Native.Nat.{ℕ}

@@ -1,4 +1,4 @@
--- Level 0 in the work buffers: what loading it asks, and that it is held; and that clearing at the end undoes it all. For both kinds of number. Assumes nothing.
+-- Level 0 in the work buffers: what loading it asks, and that it is held; and that clearing at the end undoes it all. For both kinds of number.
 use mathlib.Core.Path.{_≡_, refl, ap}
 use Prim.Native.Nat.{ℕ, _+_, _*_, _/_, _≤_}
 use native.Mathlib.Omega.{arith}

@@ -1,4 +1,4 @@
--- The work buffers from level to level: what one level asks of them, and what it leaves in them. Assumes nothing.
+-- The work buffers from level to level: what one level asks of them, and what it leaves in them.
 use mathlib.Core.Path.{_≡_, refl, sym, ap, ap₂, _∙_, subst}
 use mathlib.Core.Logic.{inl, inr}
 use Prim.Native.Nat.{ℕ, _+_, _*_, _%_, _≤_, _<_}

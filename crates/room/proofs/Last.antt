@@ -1,4 +1,4 @@
--- The last level in the work buffers, and what goes out of it; for both kinds of number. Assumes nothing.
+-- The last level in the work buffers, and what goes out of it; for both kinds of number.
 use mathlib.Core.Path.{_≡_, sym, ap, ap₂, _∙_}
 use Prim.Native.Nat.{ℕ, _+_, _-_, _*_, _%_, _≤_}
 use native.Mathlib.Omega.{arith}

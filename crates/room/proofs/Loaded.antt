@@ -1,4 +1,4 @@
--- The control cage at the front of the words is held there. Assumes nothing.
+-- The control cage at the front of the words is held there.
 use mathlib.Core.Path.{_≡_, refl, sym, ap, ap₂, _∙_}
 use Prim.Native.Nat.{ℕ, _+_, _*_, _/_, _≤_}
 use native.Mathlib.Omega.{arith}

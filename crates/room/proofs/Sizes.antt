@@ -1,4 +1,4 @@
--- The levels of an accepted cage: sound, of small valence, and within the sizes of the last. Assumes nothing.
+-- The levels of an accepted cage: sound, of small valence, and within the sizes of the last.
 use mathlib.Core.Path.{_≡_, ap}
 use Prim.Native.Nat.{ℕ, _+_, _*_, _/_, _≤_, _<_}
 use native.Mathlib.Omega.{arith}

@@ -1,4 +1,4 @@
--- What the lent work buffers hold while a call runs. Level i stands in the first part of each buffer where i is even and in the second where it is odd. Assumes nothing.
+-- What the lent work buffers hold while a call runs. Level i stands in the first part of each buffer where i is even and in the second where it is odd.
 use Prim.Native.Nat.{ℕ, _+_, _*_, _%_}
 use mathlib.Core.Path.{_≡_}
 use mathlib.Core.List.{List, _++_, map}

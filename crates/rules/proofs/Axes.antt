@@ -1,4 +1,4 @@
--- Request 11: a cage turned and then subdivided is the plate turned, in whole micrometres, since a half goes away from zero. Assumes nothing.
+-- Request 11: a cage turned and then subdivided is the plate turned, in whole micrometres, since a half goes away from zero.
 use mathlib.Core.Path.{_≡_, refl, sym, ap, ap₂, _∙_}
 use Prim.Native.Nat.{ℕ, zero, suc, _+_, _*_, _/_, _<_, _≤_, min, max}
 use native.Mathlib.Omega.{arith}

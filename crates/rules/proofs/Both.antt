@@ -1,4 +1,4 @@
--- Request 6: a sharp edge is marked on both its faces and no rim side is marked, in the cage and at every level. Assumes nothing.
+-- Request 6: a sharp edge is marked on both its faces and no rim side is marked, in the cage and at every level.
 use mathlib.Core.Path.{_≡_, refl, sym, ap, _∙_}
 use Prim.Native.Nat.{ℕ, zero, suc, _+_, _*_, _/_, _%_, _<_}
 use native.Mathlib.Omega.{arith}

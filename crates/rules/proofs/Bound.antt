@@ -1,4 +1,4 @@
--- Demand 3: at l levels the whole engine is within (l + 1) / 2 of the exact limit position, whichever nearest whole number it rounds to. Assumes nothing.
+-- Demand 3: at l levels the whole engine is within (l + 1) / 2 of the exact limit position, whichever nearest whole number it rounds to.
 use mathlib.Core.Path.{_≡_, sym, ap}
 use Prim.Native.Nat.{ℕ, suc, _+_, _*_, _/_}
 use native.Mathlib.Omega.{arith}

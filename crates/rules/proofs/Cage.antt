@@ -1,4 +1,4 @@
--- A cage that passes the checks is sound. Assumes nothing.
+-- A cage that passes the checks is sound.
 use mathlib.Core.Path.{_≡_, sym, ap, _∙_}
 use Prim.Native.Nat.{ℕ, suc, _-_, _*_, _/_, _<_, _≤_}
 use native.Mathlib.Omega.{arith}

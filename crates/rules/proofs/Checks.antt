@@ -1,4 +1,4 @@
--- What a list that passes the checks has, stage by stage. Assumes nothing.
+-- What a list that passes the checks has, stage by stage.
 use mathlib.Core.Path.{_≡_, refl, sym, ap, _∙_, subst}
 use mathlib.Core.Logic.{_≢_}
 use Prim.Native.Nat.{ℕ, _+_, _*_, _/_, _%_, _<_, _≤_}

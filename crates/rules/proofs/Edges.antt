@@ -1,4 +1,4 @@
--- The fan of an edge vertex has six corners inside and three at the rim: valence 6 and 4. Assumes nothing.
+-- The fan of an edge vertex has six corners inside and three at the rim: valence 6 and 4.
 use mathlib.Core.Path.{_≡_, refl, sym, ap, _∙_}
 use mathlib.Core.Logic.{_≢_}
 use Prim.Native.Nat.{ℕ, suc, _+_, _-_, _*_, _/_, _%_, _<_}

@@ -1,5 +1,5 @@
 -- Request 8: after the checks of the face list and of unused vertices every ring walk ends within the faces at its vertex. So refusal 11, "a ring walk passes more faces
--- than the mesh has", was given to no cage: without it every answer is as before, and none is 11. No law that is cited here reads a check 11. Assumes nothing.
+-- than the mesh has", was given to no cage: without it every answer is as before, and none is 11. No law that is cited here reads a check 11.
 use mathlib.Core.Path.{_≡_, refl, sym, ap, _∙_}
 use mathlib.Core.Logic.{_≢_}
 use Prim.Native.Nat.{ℕ, _+_, _*_, _/_, _%_, _<_, _≤_}

@@ -1,4 +1,4 @@
--- What a good mesh says of two faces. Assumes nothing.
+-- What a good mesh says of two faces.
 use mathlib.Core.Path.{_≡_, sym, ap, _∙_}
 use mathlib.Core.Logic.{_≢_}
 use Prim.Native.Nat.{ℕ, _+_, _*_, _/_, _<_}

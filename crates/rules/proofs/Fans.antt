@@ -1,4 +1,4 @@
--- The fan of an old vertex in the refined mesh is its old fan, corner for corner. Assumes nothing.
+-- The fan of an old vertex in the refined mesh is its old fan, corner for corner.
 use mathlib.Core.Path.{_≡_, refl, sym, ap}
 use Prim.Native.Nat.{ℕ, zero, suc, _+_, _*_, _/_, _<_}
 use native.Mathlib.Nat.{suc-add}

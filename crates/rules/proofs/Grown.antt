@@ -1,4 +1,4 @@
--- The links of the refined face list, by search, are written down from the old ones, twelve to a face. Assumes nothing.
+-- The links of the refined face list, by search, are written down from the old ones, twelve to a face.
 use mathlib.Core.Path.{_≡_, refl, sym, ap, _∙_}
 use Prim.Native.Nat.{ℕ, zero, suc, _+_, _*_, _/_, _%_, _<_}
 use native.Mathlib.Omega.{arith}

@@ -1,4 +1,4 @@
--- How levels grow: one more level at the end, and every level before the last is within its sizes. Assumes nothing.
+-- How levels grow: one more level at the end, and every level before the last is within its sizes.
 use mathlib.Core.Path.{_≡_, refl}
 use Prim.Native.Nat.{ℕ, zero, suc, _+_, _-_, _*_, _/_, _≤_, _<_}
 use native.Mathlib.Omega.{arith}

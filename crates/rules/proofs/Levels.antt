@@ -1,4 +1,4 @@
--- Levels: what holds of a cage holds at every level, with links carried along and counts known ahead. Assumes nothing.
+-- Levels: what holds of a cage holds at every level, with links carried along and counts known ahead.
 use mathlib.Core.Path.{_≡_, refl, sym, ap, _∙_}
 use Prim.Native.Nat.{ℕ, zero, suc, _+_, _-_, _*_, _/_, _^_, _<_, _≤_}
 use native.Mathlib.Omega.{arith}

@@ -1,5 +1,5 @@
 -- Request 14: a larger limit on valence. What was accepted is accepted with the same counts, and what was refused with another number than 12 is refused the same. Mesh, positions and
--- normals are defined with no limit, so an accepted cage gets the same of them too. Assumes nothing.
+-- normals are defined with no limit, so an accepted cage gets the same of them too.
 use mathlib.Core.Path.{_≡_, refl, sym, ap}
 use mathlib.Core.Logic.{_≢_}
 use Prim.Native.Nat.{ℕ, _/_, _≤_}

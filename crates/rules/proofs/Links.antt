@@ -1,4 +1,4 @@
--- The links of the refined mesh, from the old ones. Assumes nothing.
+-- The links of the refined mesh, from the old ones.
 use mathlib.Core.Path.{_≡_, refl, sym, ap, _∙_}
 use Prim.Native.Nat.{ℕ, _+_, _*_, _<_}
 use native.Mathlib.Omega.{arith}

@@ -1,5 +1,4 @@
 -- Request 6, over all levels: a sharp edge is marked on both its faces at every level; no coordinate leaves the range; to name the side across is to name the side.
--- Assumes nothing.
 use mathlib.Core.Path.{_≡_, refl, sym, ap, ap₂, _∙_}
 use Prim.Native.Nat.{ℕ, zero, suc, _+_, _*_, _/_, _<_}
 use native.Mathlib.Omega.{arith}

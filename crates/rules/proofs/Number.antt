@@ -1,4 +1,4 @@
--- The numbers of the edges. Assumes nothing.
+-- The numbers of the edges.
 use mathlib.Core.Path.{_≡_, refl, sym, ap}
 use mathlib.Core.Logic.{_↔_}
 use Prim.Native.Nat.{ℕ, _+_, _-_, _*_, _<_, _≤_}

@@ -1,4 +1,4 @@
--- No coordinate of any level, nor of the limits, leaves the range that the cage's are in. Assumes nothing.
+-- No coordinate of any level, nor of the limits, leaves the range that the cage's are in.
 use mathlib.Core.Path.{_≡_, refl}
 use Prim.Native.Nat.{ℕ, _+_, _*_, _<_, _≤_}
 use native.Mathlib.Omega.{arith}

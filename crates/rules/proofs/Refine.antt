@@ -1,4 +1,4 @@
--- One level keeps what the checks established, and its links are known from the old ones. Assumes nothing.
+-- One level keeps what the checks established, and its links are known from the old ones.
 use mathlib.Core.Path.{_≡_, refl, sym, ap, _∙_}
 use mathlib.Core.Logic.{_≢_}
 use Prim.Native.Nat.{ℕ, zero, suc, _+_, _*_, _/_, _%_, _<_, min}

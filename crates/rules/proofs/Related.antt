@@ -1,5 +1,5 @@
 -- The rules over two kinds of number on one mesh: if numbers related to a degree e give numbers related to e + 1 under each rule, then all that the levels
--- and the limit make of them is related, a degree further at each step. Assumes nothing.
+-- and the limit make of them is related, a degree further at each step.
 use mathlib.Core.Path.{_≡_, sym, ap, _∙_}
 use Prim.Native.Nat.{ℕ, zero, suc, _+_, _*_, _/_, zero-le, suc-le-suc}
 use native.Mathlib.Omega.{arith}

@@ -1,5 +1,4 @@
 -- The ring of an old vertex after a level is the new vertices of its spokes, in the same order; the ring of a new vertex; the far corners of the spokes.
--- Assumes nothing.
 use mathlib.Core.Path.{_≡_, refl, sym, ap, ap₂, _∙_}
 use Prim.Native.Nat.{ℕ, suc, _+_, _*_, _<_, suc-le-suc, zero-le}
 use native.Mathlib.Omega.{arith}

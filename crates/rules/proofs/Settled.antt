@@ -1,5 +1,5 @@
 -- The exact limit position of a vertex does not change when a level is applied first, inner or rim, at every valence; so the whole answers for one control vertex at two numbers of levels
--- differ by rounding alone. Assumes nothing.
+-- differ by rounding alone.
 use mathlib.Core.Path.{_≡_, refl, sym, ap, ap₂, _∙_}
 use Prim.Native.Nat.{ℕ, zero, suc, _+_, _-_, _*_, _/_, _<_, _≤_, min, max, suc-le-suc, zero-le}
 use native.Mathlib.Omega.{arith}

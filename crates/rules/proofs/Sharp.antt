@@ -1,4 +1,4 @@
--- Request 6: with marks the whole engine stays as near to the exact limit as without; and with none it gives what it gave before. Assumes nothing.
+-- Request 6: with marks the whole engine stays as near to the exact limit as without; and with none it gives what it gave before.
 use mathlib.Core.Path.{_≡_, refl, sym, ap, _∙_}
 use Prim.Native.Nat.{ℕ, zero, suc, _+_, _*_, _/_, zero-le, suc-le-suc}
 use native.Mathlib.Omega.{arith}

@@ -1,5 +1,5 @@
 -- Request 6 beside request 5: at a vertex that is an end of no marked side all goes as with no marks, so its exact limit position does not change there when a level is
--- applied first, and the whole answers at two numbers of levels differ by rounding alone. Assumes nothing.
+-- applied first, and the whole answers at two numbers of levels differ by rounding alone.
 use mathlib.Core.Path.{_≡_, refl, sym, ap, ap₂, subst, _∙_}
 use mathlib.Core.Logic.{_≢_}
 use Prim.Native.Nat.{ℕ, zero, suc, _+_, _-_, _*_, _/_, _<_, _≤_, min, suc-le-suc, zero-le}

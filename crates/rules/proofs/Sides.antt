@@ -1,4 +1,4 @@
--- Sides of a face, and the side across each, found by search. Assumes nothing.
+-- Sides of a face, and the side across each, found by search.
 use mathlib.Core.Path.{_≡_, sym, ap, _∙_}
 use Prim.Native.Nat.{ℕ, _*_, _<_}
 use native.Mathlib.Omega.{arith}

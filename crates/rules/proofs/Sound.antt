@@ -1,4 +1,4 @@
--- What the checks establish of a mesh, and that one level keeps it. Assumes nothing.
+-- What the checks establish of a mesh, and that one level keeps it.
 use mathlib.Core.Path.{_≡_, refl, sym, ap, _∙_}
 use Prim.Native.Nat.{ℕ, _+_, _-_, _*_, _/_, _<_}
 use native.Mathlib.Omega.{arith}

@@ -1,5 +1,4 @@
 -- The rule of a spoke's new vertex, as the level writes it down at the first side of the edge: its ends and its far corners. And where a level puts the coordinates.
--- Assumes nothing.
 use mathlib.Core.Path.{_≡_, refl, ap, _∙_}
 use Prim.Native.Nat.{ℕ, zero, suc, _+_, _-_, _*_, _<_, min}
 use native.Mathlib.Omega.{arith}

@@ -1,4 +1,4 @@
--- With E edges, R rim sides and F faces: 2 E = 3 F + R, and one level has 2 E + 3 F edges and 2 R rim sides. Assumes nothing.
+-- With E edges, R rim sides and F faces: 2 E = 3 F + R, and one level has 2 E + 3 F edges and 2 R rim sides.
 use mathlib.Core.Path.{_≡_, refl, sym, ap, _∙_}
 use mathlib.Core.Logic.{_≢_}
 use Prim.Native.Nat.{ℕ, zero, suc, _+_, _*_, _/_, _%_, _<_, _≤_}

@@ -1,4 +1,4 @@
--- Every walk round a vertex ends within the faces at that vertex, and a fan holds each of its corners once. Assumes nothing.
+-- Every walk round a vertex ends within the faces at that vertex, and a fan holds each of its corners once.
 use mathlib.Core.Path.{_≡_, refl, sym, ap, _∙_}
 use mathlib.Core.Logic.{_≢_}
 use Prim.Native.Nat.{ℕ, zero, suc, _-_, _*_, _/_, _<_, _≤_, zero-le, suc-le-suc}

@@ -1,4 +1,4 @@
--- Every walk round a vertex ends within the faces at that vertex. Assumes nothing.
+-- Every walk round a vertex ends within the faces at that vertex.
 use mathlib.Core.Path.{_≡_, refl, sym, ap, _∙_}
 use mathlib.Core.Logic.{_≢_}
 use Prim.Native.Nat.{ℕ, zero, suc, _<_, _≤_}

@@ -1,4 +1,4 @@
--- The weights that the rules are worked with are document 01's fractions with document 02's rim limit, at every accepted valence, and they add up. Assumes nothing.
+-- The weights that the rules are worked with are the fractions of docs/RULES.md, Positions, at every accepted valence, and they add up.
 use mathlib.Core.Path.{_≡_, refl}
 use Prim.Native.Nat.{ℕ, _+_, _-_, _*_, _≤_, _<_}
 use native.Mathlib.Omega.{arith}
@@ -16,7 +16,7 @@ use Rattle.turns.specs.Turns.{mostValence}
 use Rattle.rules.specs.Position.{Stage, refining, limit, Rule, ringRule, rimRule, each, outOf, own}
 use Rattle.rules.proofs.Checks.{not-not}
 
--- ---- the table of document 01 with 1/6 on the rim at the limit, written out: the weight b on each, and the own weight beside n of them
+-- ---- the table of docs/RULES.md, Positions, written out: the weight b on each, and the own weight beside n of them
 
 abbrev pub betaOf : ℕ → Fraction
 betaOf n = pick (eqb n 3) (over (ofWhole (pos 3)) 16) (over (ofWhole (pos 3)) (8 * n))

@@ -1,4 +1,4 @@
--- Document 01, "Sheets and limits" and "Refusal numbers": what a call answers, and what it leaves in each lent buffer. Assumes nothing.
+-- docs/RULES.md, Limits and Answers: what a call answers, and what it leaves in each lent buffer.
 use Prim.Native.Nat.{ℕ, _+_, _*_, _/_}
 use mathlib.Core.List.{List, [], _∷_}
 use mathlib.Core.Option.{Option, none, some}

@@ -1,4 +1,4 @@
--- Turns on one vertex, and on plates: T exchanged, mirrored and turned by a quarter; a plate moved sideways, which is not promised, and not so. Assumes nothing.
+-- Turns on one vertex, and on plates: T exchanged, mirrored and turned by a quarter; a plate moved sideways, which is not promised, and not so.
 use mathlib.Core.Path.{_≡_, refl}
 use Prim.Native.Nat.{ℕ}
 use mathlib.Core.List.{List, [], _∷_, map}

@@ -1,4 +1,4 @@
--- What a call promises, said once for every engine, entry and boundary: its answer, and by that answer what it leaves in each lent buffer. Assumes nothing.
+-- What a call promises, said once for every engine, entry and boundary: its answer, and by that answer what it leaves in each lent buffer.
 use Prim.Native.Nat.{ℕ}
 use mathlib.Core.Path.{_≡_}
 use mathlib.Core.List.{List}
@@ -70,7 +70,7 @@ sharpFinal l sharp fs xs = record { positions = sharpPositions whole (sharpLast 
 abbrev pub SharpCall : ℕ → List ℕ → List ℕ → List ℤ → Lent (Buffers ℤ) → Outcome → Type 0
 SharpCall l sharp fs xs b r = Call whole (λ old. sharpOutcome whole (wholeRoom old) l sharp fs xs) (sharpFinal l sharp fs xs) b r
 
--- that with no side listed, by document 01 alone
+-- that with no side listed, by the rules without marks alone
 abbrev pub WholeCall : ℕ → List ℕ → List ℤ → Lent (Buffers ℤ) → Outcome → Type 0
 WholeCall l fs xs b r = Call whole (λ old. outcome whole (wholeRoom old) l fs xs) (final whole (last whole l fs xs)) b r
 

@@ -1,4 +1,4 @@
--- The cases that document 01 marks P, "Sheets on both sides of a line", with what document 02 changes in them: one table, and one statement. Assumes nothing.
+-- The cases P, cages on both sides of a line (docs/RULES.md, Examples): one table, and one statement.
 use mathlib.Core.Path.{_≡_, refl}
 use Prim.Native.Nat.{ℕ, _*_}
 use mathlib.Core.List.{List, [], _∷_, map}
@@ -74,7 +74,7 @@ pub all-hold : Hold (
     -- H counts
     case (numbers 1 H-faces H-points) (zs (0 ∷ 0 ∷ 10 ∷ 16 ∷ 0 ∷ [])) ∷
     case (numbers 2 H-faces H-points) (zs (0 ∷ 0 ∷ 34 ∷ 64 ∷ 0 ∷ [])) ∷
-    -- rim edges: "In 01 the edge of -1 and 0 becomes -1; 0 and 1 stays 1"
+    -- rim edges: the edge of -1 and 0 becomes -1; 0 and 1 stays 1
     case (whole .halves (pos 0) (pos 1) ∷ []) (pos 1 ∷ []) ∷
     case (whole .halves (negsuc 0) (pos 0) ∷ []) (negsuc 0 ∷ []) ∷
     -- refusals

@@ -1,4 +1,4 @@
--- Document 01, "Rules of position" on the mesh: one level, all levels, the limit, and what is counted. Three coordinates to a vertex. Assumes nothing.
+-- docs/RULES.md, Positions, on the mesh: one level, all levels, the limit, and what is counted. Three coordinates to a vertex.
 use Prim.Native.Nat.{ℕ, zero, suc, _+_, _*_, _/_, min, max}
 use mathlib.Core.List.{List, [], _∷_, _++_, map}
 use mathlib.Core.Option.{Option, none, some}

@@ -1,5 +1,5 @@
--- Document 01, "Rules of the mesh". A face list is flat, three corner numbers to a face: side s = 3 f + k of face f runs from corner s to the corner after it
--- in f. A side also names the corner it starts from, so a vertex's place in a face is a side number, and the face is that number over 3. Assumes nothing.
+-- docs/RULES.md, The mesh. A face list is flat, three corner numbers to a face: side s = 3 f + k of face f runs from corner s to the corner after it
+-- in f. A side also names the corner it starts from, so a vertex's place in a face is a side number, and the face is that number over 3.
 use Prim.Native.Nat.{ℕ, zero, suc, _+_, _*_, _/_, _%_, min}
 use mathlib.Core.Bool.{Bool, true, not, _&&_}
 use mathlib.Core.List.{List, [], _∷_, _++_, map}

@@ -1,6 +1,6 @@
 -- What the P cases do not show, since they are symmetric sums: which way a ring turns and where it starts, and the order of rounded operations. Rings and
 -- start faces vertex by vertex, and the bits of f32 normals and positions, as the mended Rust gives them with the table's sines: one table, and one
--- statement. Assumes nothing.
+-- statement.
 use mathlib.Core.Path.{_≡_, refl}
 use Prim.Native.Nat.{ℕ, _/_}
 use mathlib.Core.List.{List, [], _∷_, map}

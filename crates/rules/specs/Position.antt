@@ -1,5 +1,5 @@
--- Document 01, "Rules of position": the weights, and the three kinds of number that a position is worked in. What differs between the engines is here, and nothing
--- else. Every rule acts on x, y and z alike, so a rule is over numbers, not points. Assumes nothing.
+-- docs/RULES.md, Positions: the weights, and the three kinds of number that a position is worked in. What differs between the engines is here, and nothing
+-- else. Every rule acts on x, y and z alike, so a rule is over numbers, not points.
 use Prim.Native.Nat.{ℕ, _-_, _*_}
 use mathlib.Core.Bool.{Bool, true, _&&_}
 use mathlib.Core.List.{List, [], _∷_}

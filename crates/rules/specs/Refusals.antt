@@ -1,4 +1,4 @@
--- Document 01, "Refusal numbers": checked in this order, lowest place first. Assumes nothing.
+-- docs/RULES.md, Answers, the refusal numbers: checked in this order, lowest place first.
 use Prim.Native.Nat.{ℕ, _+_, _*_, _/_, _%_}
 use mathlib.Core.Bool.{Bool, not, _&&_, _||_}
 use mathlib.Core.List.{List, [], _∷_}

@@ -1,5 +1,5 @@
--- Document 02, request 6: edges that stay sharp. A mark to a side, true on both faces of a sharp edge. The whole engine and the exact mesh take marks; the f32
--- engine takes none and keeps the rules of specs/Levels. Assumes nothing.
+-- docs/RULES.md, Sharp edges (request 6). A mark to a side, true on both faces of a sharp edge. The whole engine and the exact mesh take marks; the f32
+-- engine takes none and keeps the rules of specs/Levels.
 use mathlib.Core.Path.{_≡_}
 use mathlib.Core.Logic.{_≢_}
 use Prim.Native.Nat.{ℕ, zero, suc, _+_, _*_, _/_, min}

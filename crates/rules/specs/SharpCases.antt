@@ -1,4 +1,4 @@
--- The cases of request 6, worked out by hand: one table, and one statement. Assumes nothing.
+-- The cases of request 6, worked out by hand: one table, and one statement.
 use mathlib.Core.Path.{_≡_, refl}
 use Prim.Native.Nat.{ℕ, _+_, _%_}
 use mathlib.Core.List.{List, [], _∷_, map}

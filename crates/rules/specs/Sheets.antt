@@ -1,5 +1,5 @@
--- Document 01, "Sheets and limits": a sheet is the vertex block, the face block, and a trailer of five numbers; little endian throughout. And what `platecut`
--- answers. Assumes nothing.
+-- docs/RULES.md, Sheets: a sheet is the vertex block, the face block, and a trailer of five numbers; little endian throughout. And what `platecut`
+-- answers.
 use Prim.Native.Nat.{ℕ, _+_, _-_, _*_, _/_, _%_}
 use mathlib.Core.Bool.{Bool, not, _||_}
 use mathlib.Core.List.{List, [], _∷_, _++_, map}

@@ -1,4 +1,4 @@
--- Document 01, "Tangents use limit positions of vertex and ring", in f32: each operation rounded once, in the written order. Assumes nothing.
+-- docs/RULES.md, Positions: tangents, of the limit positions of a vertex and its ring, in f32: each operation rounded once, in the written order.
 use Prim.Native.Nat.{ℕ, _+_}
 use mathlib.Core.List.{List, [], _∷_}
 use mathlib.Core.Option.{Option}

@@ -1,4 +1,4 @@
-// What every call answers with. The definitions of document 01 stand in specs/, their laws in proofs/.
+// What every call answers with. The definitions of docs/RULES.md stand in specs/, their laws in proofs/.
 ghost use mathlib.Core.Path.{_≡_};
 ghost use Rattle.rules.specs.Answers.{answer};
 

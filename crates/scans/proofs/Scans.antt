@@ -1,4 +1,4 @@
--- What a scan of a list that has come so far says. Assumes nothing.
+-- What a scan of a list that has come so far says.
 use mathlib.Core.Path.{_≡_, refl, sym, ap, ap₂, _∙_}
 use mathlib.Core.Logic.{_≢_}
 use Prim.Native.Nat.{ℕ, zero, suc, _+_, _-_, _*_, _/_, _≤_, _<_}

@@ -1,4 +1,4 @@
--- What check 9 leaves. Assumes nothing.
+-- What check 9 leaves.
 use Prim.Native.Nat.{ℕ, _<_}
 use mathlib.Core.List.{List}
 use lib.ListN.{length}

@@ -1,4 +1,4 @@
--- Request 6: the limit of a mesh with marks in the words, and the last level that goes out. Assumes nothing.
+-- Request 6: the limit of a mesh with marks in the words, and the last level that goes out.
 use mathlib.Core.Path.{_≡_, refl, sym, ap, ap₂, _∙_, subst}
 use Prim.Native.Nat.{ℕ, _+_, _-_, _*_, _%_, _≤_, _<_}
 use native.Mathlib.Omega.{arith}

@@ -1,4 +1,4 @@
--- Request 6: the loop over the levels with marks: what holds whenever its test is reached, and one turn of it. Assumes nothing.
+-- Request 6: the loop over the levels with marks: what holds whenever its test is reached, and one turn of it.
 use mathlib.Core.Path.{_≡_, refl, sym, ap, ap₂, _∙_, subst}
 use mathlib.Core.Logic.{_⊎_, inl, inr}
 use Prim.Native.Nat.{ℕ, _+_, _-_, _*_, _/_, _%_, _≤_, _<_}

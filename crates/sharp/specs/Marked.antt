@@ -1,5 +1,5 @@
 -- Request 6: what the lent work buffers hold while a call with sharp edges runs. Level i stands where it stands without marks; the words of its marks, one to a face,
--- are the last ones of the part that holds it. Assumes nothing.
+-- are the last ones of the part that holds it.
 use Prim.Native.Nat.{ℕ, _+_, _-_, _*_}
 use mathlib.Core.Path.{_≡_}
 use mathlib.Core.List.{List, [], _∷_}

@@ -1,4 +1,4 @@
--- What the trailer alone decides of the call on a sheet, and what its lists are once decoded. Assumes nothing.
+-- What the trailer alone decides of the call on a sheet, and what its lists are once decoded.
 use Prim.Native.Nat.{ℕ, _*_, _/_, _≤_}
 use mathlib.Core.Path.{_≡_, refl, sym, ap, _∙_}
 use mathlib.Core.Bool.{false}

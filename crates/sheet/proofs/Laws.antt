@@ -1,4 +1,4 @@
--- Laws of the reader: minus one less a number, one number more of a block, and the blocks by their bytes. Assumes nothing.
+-- Laws of the reader: minus one less a number, one number more of a block, and the blocks by their bytes.
 use Prim.Native.Nat.{ℕ, zero, suc, _+_, _-_, _*_, _≤_}
 use mathlib.Core.Path.{_≡_, refl, ap}
 use mathlib.Core.Bool.{Bool, true, false, not, _||_}

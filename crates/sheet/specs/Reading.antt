@@ -1,4 +1,4 @@
--- What the reader answers of a sheet's trailer, in document 01's terms. Assumes nothing.
+-- What the reader answers of a sheet's trailer, in the terms of docs/RULES.md.
 use Prim.Native.Nat.{ℕ, _*_}
 use mathlib.Core.List.{List}
 use Rattle.lists.specs.Lists.{pick}

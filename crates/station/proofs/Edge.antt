@@ -1,4 +1,4 @@
--- At level 1 each new vertex of an edge: its exact limit over one denominator, from the control points. Assumes nothing.
+-- At level 1 each new vertex of an edge: its exact limit over one denominator, from the control points.
 use mathlib.Core.Path.{_≡_, refl, sym, ap, _∙_}
 use Prim.Native.Nat.{ℕ, zero, suc, _+_, _-_, _*_, _<_, min, max}
 use native.Mathlib.Omega.{arith}

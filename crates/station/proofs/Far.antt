@@ -1,4 +1,4 @@
--- The loops over the coordinates of a claim, three at a time. Assumes nothing.
+-- The loops over the coordinates of a claim, three at a time.
 use mathlib.Core.Path.{_≡_, refl, sym, ap, _∙_}
 use Prim.Native.Nat.{ℕ, suc, _+_, _-_, _*_, _<_}
 use native.Mathlib.Omega.{arith}

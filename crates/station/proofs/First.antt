@@ -1,4 +1,4 @@
--- A no names what is really first: all before it pass. Assumes nothing.
+-- A no names what is really first: all before it pass.
 use mathlib.Core.Path.{_≡_, refl, sym, ap, _∙_}
 use Prim.Native.Nat.{ℕ, _/_, _<_}
 use native.Mathlib.Omega.{arith}

@@ -1,4 +1,4 @@
--- The limit of an edge's new vertex at level 1, from its ring there. Assumes nothing.
+-- The limit of an edge's new vertex at level 1, from its ring there.
 use mathlib.Core.Path.{_≡_, refl, sym, ap, _∙_}
 use Prim.Native.Nat.{ℕ, _+_, _/_, _<_}
 use native.Mathlib.Omega.{arith}

@@ -1,4 +1,4 @@
--- All coordinates of a claim at levels 0 and 1: the search of the definition is the loops' work, and the words hold the cage. Assumes nothing.
+-- All coordinates of a claim at levels 0 and 1: the search of the definition is the loops' work, and the words hold the cage.
 use mathlib.Core.Path.{_≡_, refl, sym, ap, _∙_}
 use Prim.Native.Nat.{ℕ, zero, suc, _+_, _*_, _/_, _%_, _<_}
 use native.Mathlib.Omega.{arith}

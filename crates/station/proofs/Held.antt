@@ -1,4 +1,4 @@
--- A coordinate of the claim, three of them, and a vertex: what the code works out is what the definition says. Assumes nothing.
+-- A coordinate of the claim, three of them, and a vertex: what the code works out is what the definition says.
 use mathlib.Core.Path.{_≡_, refl}
 use Prim.Native.Nat.{ℕ, _+_, _-_, _*_, _<_, _≤_}
 use native.Mathlib.Omega.{arith}

@@ -1,4 +1,4 @@
--- What the code works out for a sender's number is the tolerance that it needs. Assumes nothing.
+-- What the code works out for a sender's number is the tolerance that it needs.
 use mathlib.Core.Path.{_≡_, refl, sym, ap, _∙_}
 use Prim.Native.Nat.{ℕ, _+_, _-_, _*_, _<_}
 use native.Mathlib.Omega.{arith}

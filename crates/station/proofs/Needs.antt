@@ -1,4 +1,4 @@
--- The least tolerance at which a whole number passes for a fraction: what it says, and that it may be worked out over any denominator. Assumes nothing.
+-- The least tolerance at which a whole number passes for a fraction: what it says, and that it may be worked out over any denominator.
 use mathlib.Core.Path.{_≡_, sym, ap, _∙_}
 use Prim.Native.Nat.{ℕ, suc, _+_, _-_, _*_, _/_, _<_, _≤_}
 use native.Mathlib.Nat.{mul-le-mul-right, le-of-mul-le-mul-right, div-add-mod', mod-lt}

@@ -1,4 +1,4 @@
--- The new vertices of level 1 over one denominator: exact. Assumes nothing.
+-- The new vertices of level 1 over one denominator: exact.
 use mathlib.Core.Path.{_≡_, refl, sym, ap, _∙_}
 use Prim.Native.Nat.{ℕ, _+_, _-_, _*_, _<_, _≤_}
 use native.Mathlib.Omega.{arith}

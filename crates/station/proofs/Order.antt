@@ -1,4 +1,4 @@
--- The refusals of the call, in their order, and what an accepted cage gives. Assumes nothing.
+-- The refusals of the call, in their order, and what an accepted cage gives.
 use mathlib.Core.Path.{_≡_, refl, sym, ap, _∙_}
 use mathlib.Core.Logic.{_≢_}
 use mathlib.Core.Bool.{Bool, true, false, _||_}

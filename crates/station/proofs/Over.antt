@@ -1,4 +1,4 @@
--- The rules over naturals: raised numbers over one denominator D give raised numbers over D times that of the rule, and stand for the exact fraction. Assumes nothing.
+-- The rules over naturals: raised numbers over one denominator D give raised numbers over D times that of the rule, and stand for the exact fraction.
 use mathlib.Core.Path.{_≡_, refl, sym, ap}
 use Prim.Native.Nat.{ℕ, _+_, _*_}
 use native.Mathlib.Omega.{arith}

@@ -1,4 +1,4 @@
--- A vertex by its ring, over the denominator of its rule: the exact point. Assumes nothing.
+-- A vertex by its ring, over the denominator of its rule: the exact point.
 use mathlib.Core.Path.{_≡_, refl, sym, subst, ap, _∙_}
 use Prim.Native.Nat.{ℕ, zero, suc, _+_, _-_, _*_, _/_, _<_, _≤_}
 use native.Mathlib.Omega.{arith}

@@ -1,4 +1,4 @@
--- The control cage, loaded into words: what the loops ask, and that they give the definition's search. Assumes nothing.
+-- The control cage, loaded into words: what the loops ask, and that they give the definition's search.
 use mathlib.Core.Path.{_≡_, refl, sym, ap, _∙_}
 use Prim.Native.Nat.{ℕ, zero, suc, _+_, _*_, _/_, _≤_}
 use native.Mathlib.Omega.{arith}

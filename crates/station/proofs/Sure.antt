@@ -1,4 +1,4 @@
--- What is asked of every verdict: a face turned over is never taken, at tolerance 0 only whole values pass, our own answer passes at 1, and a no names what is really first. Assumes nothing.
+-- What is asked of every verdict: a face turned over is never taken, at tolerance 0 only whole values pass, our own answer passes at 1, and a no names what is really first.
 use mathlib.Core.Path.{_≡_, refl, sym, ap, _∙_}
 use mathlib.Core.Logic.{_≢_}
 use Prim.Native.Nat.{ℕ, _+_, _*_, _/_, _%_, _≤_}

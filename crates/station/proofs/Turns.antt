@@ -1,4 +1,4 @@
--- The faces of a claim, and all its coordinates: what the code answers. Assumes nothing.
+-- The faces of a claim, and all its coordinates: what the code answers.
 use mathlib.Core.Path.{_≡_, refl, sym, ap, _∙_}
 use Prim.Native.Nat.{ℕ, _+_, _*_}
 use native.Mathlib.Omega.{arith}

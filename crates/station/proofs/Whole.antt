@@ -1,4 +1,4 @@
--- The whole verdict on a claim, in the order in which the code looks. Assumes nothing.
+-- The whole verdict on a claim, in the order in which the code looks.
 use mathlib.Core.Path.{_≡_, refl, sym, ap, _∙_}
 use Prim.Native.Nat.{ℕ, _/_}
 use native.Mathlib.Omega.{arith}

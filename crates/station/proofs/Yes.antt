@@ -1,4 +1,4 @@
--- The yes is given exactly when the claim passes. Assumes nothing.
+-- The yes is given exactly when the claim passes.
 use mathlib.Core.Path.{_≡_, refl, ap, _∙_}
 use mathlib.Core.Logic.{_≢_}
 use Prim.Native.Nat.{ℕ, _/_, _<_}

@@ -1,4 +1,4 @@
--- Request [10]: "Plates made elsewhere". Assumes nothing.
+-- Request [10]: "Plates made elsewhere".
 use Prim.Native.Nat.{ℕ, _+_, _-_, _*_, _/_, _%_, _<_}
 use mathlib.Core.Path.{_≡_}
 use mathlib.Core.Bool.{Bool, not, _&&_, _||_}
@@ -87,7 +87,7 @@ verdict rooms t l fs xs cs ys =
     let h = held t (last whole l fs xs .mesh .faces) (exactLimits l fs xs) cs ys in
     judged (stationOutcome rooms t l fs xs) h
 
--- `accept`: tolerance, levels, face list, coordinates, the claim's faces and coordinates. "It is lent 01's buffers and leaves them as the whole call does"
+-- `accept`: tolerance, levels, face list, coordinates, the claim's faces and coordinates. It "leaves [its buffers] as the whole call does"
 pub record StationCall (t l : ℕ) (fs : List ℕ) (xs : List ℤ) (cs : List ℕ) (ys : List ℤ) (b : Lent (Buffers ℤ)) (r : Verdict) : Type 0 where
   pub answer : r ≡ verdict (wholeRoom (b .old)) t l fs xs cs ys
   pub call : Call whole (λ old. stationOutcome (wholeRoom old) t l fs xs) (final whole (last whole l fs xs)) b (stationOutcome (wholeRoom (b .old)) t l fs xs)

@@ -1,4 +1,4 @@
--- Claims of T and H at levels 0 and 1, on both sides of each line: one table. Assumes nothing.
+-- Claims of T and H at levels 0 and 1, on both sides of each line: one table.
 use mathlib.Core.Path.{_≡_, refl}
 use Prim.Native.Nat.{ℕ}
 use mathlib.Core.List.{List, [], _∷_, _++_, map}

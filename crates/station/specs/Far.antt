@@ -1,4 +1,4 @@
--- What the loops over the coordinates of a claim work out, and the exact limits that they hold it to. Assumes nothing.
+-- What the loops over the coordinates of a claim work out, and the exact limits that they hold it to.
 use Prim.Native.Nat.{ℕ, zero, suc, _+_, _*_, _/_, _<_, _≤_}
 use mathlib.Core.Bool.{Bool, true, false}
 use mathlib.Core.Path.{_≡_}

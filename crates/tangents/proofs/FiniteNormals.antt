@@ -1,4 +1,4 @@
--- No normal of an accepted cage is a NaN or an infinity: from positions within 2 ^ 48, tangents are within 90 times that, and normals within 2 ^ 111. Assumes nothing.
+-- No normal of an accepted cage is a NaN or an infinity: from positions within 2 ^ 48, tangents are within 90 times that, and normals within 2 ^ 111.
 use mathlib.Core.Path.{_≡_, refl, sym, ap, _∙_}
 use Prim.Native.Nat.{ℕ, zero, suc, _+_, _-_, _*_, _/_, _%_, _^_, _≤_, _<_, zero-le, suc-le-suc}
 use native.Mathlib.Nat.{mul-le-mul-right}

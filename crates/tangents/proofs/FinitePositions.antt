@@ -1,4 +1,4 @@
--- No limit position of an accepted cage is a NaN or an infinity: sizes begin at 2 ^ 40 at most, and a level or the limit at most doubles them. Assumes nothing.
+-- No limit position of an accepted cage is a NaN or an infinity: sizes begin at 2 ^ 40 at most, and a level or the limit at most doubles them.
 use mathlib.Core.Path.{_≡_, refl, sym, ap, _∙_}
 use Prim.Native.Nat.{ℕ, zero, suc, _+_, _-_, _*_, _/_, _%_, _^_, _≤_, _<_, zero-le, suc-le-suc, min, max}
 use native.Mathlib.Nat.{le-trans, le-of-eq, le-of-lt, mul-le-mul-left, mul-le-mul-right, div-mul-le-self, div-le-self}

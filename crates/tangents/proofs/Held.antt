@@ -1,4 +1,4 @@
--- What the caller of `normals` has where the words hold a level of an accepted cage. Assumes nothing.
+-- What the caller of `normals` has where the words hold a level of an accepted cage.
 use mathlib.Core.Path.{_≡_, ap}
 use Prim.Native.Nat.{ℕ}
 use mathlib.Core.List.{List}
@@ -24,7 +24,7 @@ module _ (w : List ℕ) (at n : ℕ) (a : Level single) (h : Holds w at (a .mesh
     sized = length-positions single a;
   }
 
-  -- they are the normals of document 01
+  -- they are the normals of docs/RULES.md
   pub normals-level : gather (normalIn w at n (a .mesh .verts) (positions single a)) (count 0 (a .mesh .verts)) ≡ normals a
   unfolding normals
   normals-level = ap (λ (m : Mesh). gather (normalAt m (links (m .faces)) (positions single a)) (count 0 (a .mesh .verts))) (mesh-is w at n (a .mesh) h p)

@@ -1,4 +1,4 @@
--- What the tangents at a vertex ask and answer, where the words hold a checked mesh. Assumes nothing.
+-- What the tangents at a vertex ask and answer, where the words hold a checked mesh.
 use mathlib.Core.Path.{_≡_, refl, ap, ap₂, _∙_}
 use Prim.Native.Nat.{ℕ, _+_, _*_, _≤_, _<_}
 use native.Mathlib.Omega.{arith}
@@ -29,7 +29,7 @@ use Rattle.tangents.proofs.Valence.{ring-fewest}
 pub points-are : (xs : List Float) (vs : List ℕ) → length vs ≤ mostValence → take (length vs) (ringful (map (point xs) vs)) ≡ map (point xs) vs
 points-are xs vs few = part-of (map (point xs) vs) (replicate mostValence origin) 0 (length vs) (length-map vs (point xs)) (omega arith)
 
--- the tangents by the ring of a fan are those of document 01
+-- the tangents by the ring of a fan are those of docs/RULES.md
 tangents-of : (n : ℕ) (fs : List ℕ) (xs : List Float) (u s : ℕ) (f : Fan) → Turned n fs s f → tangentsBy xs u (isRim f) (ring fs f) ≡ tangentsAt fs xs u f
 tangents-of n fs xs u s _ (round cs r) = refl
 tangents-of n fs xs u s _ (fringe cs r) = refl

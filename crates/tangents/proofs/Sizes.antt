@@ -1,4 +1,4 @@
--- How large a float can be: bounds that each rounded operation keeps, so that no NaN and no infinity arises within them. Assumes nothing.
+-- How large a float can be: bounds that each rounded operation keeps, so that no NaN and no infinity arises within them.
 use mathlib.Core.Path.{_≡_, sym, ap, _∙_}
 use Prim.Native.Nat.{ℕ, suc, _+_, _-_, _*_, _/_, _^_, _≤_, _<_}
 use native.Mathlib.Nat.{le-trans, le-of-eq, lt-of-le-of-lt, lt-of-lt-of-le, le-of-mul-le-mul-right, mul-le-mul, mul-le-mul-right, mul-one, mul-pos, div-one, mod-one, div-mul-le-self}

@@ -1,4 +1,4 @@
--- Sums of weighted points as their loops go, and T on the rim by the places of the ring. Assumes nothing.
+-- Sums of weighted points as their loops go, and T on the rim by the places of the ring.
 use mathlib.Core.Path.{_≡_, refl, sym, ap, ap₂, _∙_}
 use Prim.Native.Nat.{ℕ, zero, suc, _+_, _-_, _≤_, _<_}
 use native.Mathlib.Omega.{arith}

@@ -1,4 +1,4 @@
--- The fewest in a ring of a good mesh: three round an inner vertex, two on the rim. Assumes nothing.
+-- The fewest in a ring of a good mesh: three round an inner vertex, two on the rim.
 use mathlib.Core.Path.{_≡_, refl}
 use mathlib.Core.Logic.{_≢_}
 use Prim.Native.Nat.{ℕ, _*_, _/_, _≤_, _<_}

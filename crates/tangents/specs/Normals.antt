@@ -1,4 +1,4 @@
--- Tangents and normals as the code answers them, and what it asks of the words in which a mesh stands. Assumes nothing.
+-- Tangents and normals as the code answers them, and what it asks of the words in which a mesh stands.
 use Prim.Native.Nat.{ℕ, _*_}
 use mathlib.Core.Path.{_≡_}
 use mathlib.Core.Bool.{Bool}

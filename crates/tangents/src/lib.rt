@@ -1,4 +1,4 @@
-// Document 01, "Tangents use limit positions of vertex and ring", in f32: each operation rounded once, in the written order.
+// docs/RULES.md, Positions: tangents, of the limit positions of a vertex and its ring, in f32: each operation rounded once, in the written order.
 use faces::VertNo;
 use faces::one_ring;
 use turns::MOST_VALENCE;

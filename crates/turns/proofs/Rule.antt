@@ -1,5 +1,4 @@
 -- The rule of the table: each of its numbers is the one that the series gives. Proved by one computed test over all of them for each of the two lists.
--- Assumes nothing.
 use mathlib.Core.Path.{_≡_, refl, sym, ap, subst}
 use mathlib.Core.Bool.{Bool, true, false}
 use mathlib.Core.List.{List}

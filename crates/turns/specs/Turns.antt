@@ -1,4 +1,4 @@
--- Sine and cosine as document 01 has them: whole numbers scaled by 2 ^ 24, by the power series in fractions, and the f32 made of them.
+-- Sine and cosine (docs/RULES.md, Turning): whole numbers scaled by 2 ^ 24, by the power series in fractions, and the f32 made of them.
 use mathlib.Core.Bool.{Bool, true, false, cond}
 use Prim.Native.Nat.{ℕ, zero, suc, _+_, _-_, _*_, _/_, _^_}
 use lib.IntN.{ℤ, pos, negℤ}

@@ -1,5 +1,4 @@
 -- What the proof of `narrow::narrow` cites: the pattern b of an f64 x that is no NaN, and the pattern that the sign's bit and a magnitude make.
--- Assumes nothing.
 use mathlib.Core.Path.{_≡_, refl, sym, ap, _∙_, subst}
 use mathlib.Core.Bool.{Bool, true, false, not, cond, true≢false}
 use Prim.Native.Nat.{ℕ, zero, suc, _+_, _*_, _/_, _%_, _^_, _≤_, _<_}

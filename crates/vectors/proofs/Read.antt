@@ -1,6 +1,5 @@
 -- The pattern of the f32 nearest to an f64, by the fields of the f64's own pattern: its sign s, the exponent's field x and the digits t.
 -- In units of 2 ^ -149, the least f32, the f64 is (2 ^ 52 + t) * 2 ^ (x - 926).
--- Assumes nothing.
 use mathlib.Core.Path.{_≡_, refl, sym, ap, _∙_, subst}
 use mathlib.Core.Logic.{_⊎_, inl, inr}
 use mathlib.Core.Bool.{Bool, true, false, not, cond, _&&_}

@@ -1,5 +1,4 @@
 -- The bit pattern of a rounded fraction, by the digits that `round` drops and the number that it keeps.
--- Assumes nothing.
 use mathlib.Core.Path.{_≡_, refl, sym, ap, _∙_, subst}
 use mathlib.Core.Logic.{_⊎_, inl, inr}
 use mathlib.Core.Bool.{Bool, true, false, not, cond}

@@ -1,4 +1,4 @@
--- f32 weights as they come out step by step, each operation rounded. Assumes nothing.
+-- f32 weights as they come out step by step, each operation rounded.
 use mathlib.Core.Path.{_≡_, refl}
 use mathlib.Core.List.{List, [], _∷_, map}
 use Prim.Native.Nat.{ℕ}

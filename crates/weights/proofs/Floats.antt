@@ -1,4 +1,4 @@
--- The f32 constants of the code as the fractions that 01 names, each computed; and points added to a point one at a time. Assumes nothing.
+-- The f32 constants of the code as the fractions of docs/RULES.md, each computed; and points added to a point one at a time.
 use mathlib.Core.Path.{_≡_, refl, ap, _∙_}
 use mathlib.Core.List.{List, [], _∷_, _++_, map}
 use Prim.Native.Nat.{ℕ, suc, _<_}

@@ -1,4 +1,4 @@
--- Points gathered from lent coordinates, and what the f32 rules give of them. Assumes nothing.
+-- Points gathered from lent coordinates, and what the f32 rules give of them.
 use Prim.Native.Nat.{ℕ, _+_, _*_, _≤_, _<_}
 use mathlib.Core.Path.{_≡_, sym, ap, ap₂, _∙_}
 use mathlib.Core.Bool.{Bool, true, false}

@@ -1,4 +1,4 @@
--- What the rules give over a ring is what document 01's rules give over the fan that it was taken from. For both kinds of number. Assumes nothing.
+-- What the rules give over a ring is what the rules give over the fan that it was taken from. For both kinds of number.
 use mathlib.Core.Path.{_≡_, refl, ap, ap₂, _∙_}
 use mathlib.Core.Logic.{_≢_}
 use Prim.Native.Nat.{ℕ, zero, suc, _+_, _*_, _≤_, _<_}

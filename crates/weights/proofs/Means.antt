@@ -1,4 +1,4 @@
--- Sums of raised coordinates, and the means that are rounded from them. Assumes nothing.
+-- Sums of raised coordinates, and the means that are rounded from them.
 use Prim.Native.Nat.{ℕ, _+_, _-_, _*_, min, max, _≤_, _<_}
 use mathlib.Core.Path.{_≡_, refl, sym, ap, _∙_}
 use mathlib.Core.Bool.{Bool, true, false}

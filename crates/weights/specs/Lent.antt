@@ -1,4 +1,4 @@
--- The rules over lent coordinates, three to a vertex, in either kind of number; and the weights as whole shares. Assumes nothing.
+-- The rules over lent coordinates, three to a vertex, in either kind of number; and the weights as whole shares.
 use Prim.Native.Nat.{ℕ, _+_, _-_, _*_, min, max, _≤_, _<_}
 use mathlib.Core.Path.{_≡_}
 use mathlib.Core.Bool.{Bool}

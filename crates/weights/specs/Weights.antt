@@ -1,4 +1,4 @@
--- The rules of position as the code holds them, in f32. Each gives of every coordinate what the rule over numbers does. Assumes nothing.
+-- The rules of position as the code holds them, in f32. Each gives of every coordinate what the rule over numbers does.
 use Prim.Native.Nat.{ℕ}
 use mathlib.Core.Bool.{Bool}
 use mathlib.Core.List.{List, map}

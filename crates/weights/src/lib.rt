@@ -1,4 +1,4 @@
-// Document 01, module 4: the weights of a vertex rule and of an edge, and the points that they give. The rules in f32; their twins in whole micrometres.
+// docs/RULES.md, Positions: the weights of a vertex rule and of an edge, and the points that they give. The rules in f32; their twins in whole micrometres.
 pub mod micrometres;
 pub mod points;
 

@@ -1,4 +1,4 @@
--- Halves and quarters on both sides of zero, rounded. Assumes nothing.
+-- Halves and quarters on both sides of zero, rounded.
 use mathlib.Core.Path.{_≡_, refl}
 use mathlib.Core.List.{List, [], _∷_, map}
 use Prim.Native.Nat.{ℕ}

@@ -1,4 +1,4 @@
--- Where a half goes: `nearest` rounds it away from zero, and so does the code's quotient. The laws above cite `nearest-rounds` alone. Assumes nothing.
+-- Where a half goes: `nearest` rounds it away from zero, and so does the code's quotient. The laws above cite `nearest-rounds` alone.
 use mathlib.Core.Path.{_≡_, refl, sym, ap}
 use Prim.Native.Nat.{ℕ, zero, suc, _+_, _*_, _-_, _/_, _≤_, _<_}
 use native.Mathlib.Omega.{arith}

@@ -1,4 +1,4 @@
--- The arithmetic of the two round trips. Assumes nothing.
+-- The arithmetic of the two round trips.
 use Prim.Native.Nat.{ℕ, _+_, _-_, _*_, _/_, _%_, _≤_, _<_}
 use mathlib.Core.Path.{_≡_, refl}
 use mathlib.Core.Bool.{Bool, true, false}

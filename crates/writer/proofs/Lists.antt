@@ -1,4 +1,4 @@
--- Blocks of numbers, written and read back. Assumes nothing.
+-- Blocks of numbers, written and read back.
 use Prim.Native.Nat.{ℕ, zero, suc, _+_, _-_, _*_, _≤_, _<_}
 use mathlib.Core.Path.{_≡_, refl, sym, ap, _∙_}
 use mathlib.Core.List.{List, [], _∷_, _++_, append-assoc, append-nil}

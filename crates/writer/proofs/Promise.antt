@@ -1,5 +1,5 @@
 -- Request [1], of every call that keeps the writer's promise: one outcome, nothing written by a refusal, the rest unchanged, both round trips, and the same cut. Of request [8]: it
--- never answers 11. Assumes nothing.
+-- never answers 11.
 use Prim.Native.Nat.{ℕ, _≤_}
 use mathlib.Core.Path.{_≡_, refl, sym, ap, _∙_}
 use mathlib.Core.Logic.{_≢_}

@@ -1,4 +1,4 @@
--- Stores of numbers as bytes, one after the other. Assumes nothing.
+-- Stores of numbers as bytes, one after the other.
 use Rattle.rules.specs.Sheets.{bytesOf, unsigned, sheetBytes}
 use Prim.Native.Nat.{ℕ, suc, _+_, _-_, _*_, _/_, _%_, _≤_, _<_}
 use mathlib.Core.Path.{_≡_, refl, sym, ap, _∙_}

@@ -1,4 +1,4 @@
--- 13 asks for nothing where no level is made: the checks 1 to 12 are the judgement at level 0. Assumes nothing.
+-- 13 asks for nothing where no level is made: the checks 1 to 12 are the judgement at level 0.
 use Prim.Native.Nat.{ℕ, _/_, _≤_}
 use mathlib.Core.Path.{_≡_, refl, sym, ap, _∙_}
 use mathlib.Core.List.{List}

@@ -1,4 +1,4 @@
--- Both round trips: reading what was written, and writing what was read. Assumes nothing.
+-- Both round trips: reading what was written, and writing what was read.
 use Prim.Native.Nat.{ℕ, zero, suc, _+_, _-_, _*_, _/_, _≤_, _<_}
 use mathlib.Core.Path.{_≡_, refl, sym, ap, _∙_}
 use mathlib.Core.Bool.{Bool, true, false, not, _||_}

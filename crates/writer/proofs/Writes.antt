@@ -1,4 +1,4 @@
--- What the writer answers, stage by stage. Assumes nothing.
+-- What the writer answers, stage by stage.
 use Prim.Native.Nat.{ℕ, _+_, _*_, _/_, _≤_, _<_}
 use mathlib.Core.Path.{_≡_, refl}
 use mathlib.Core.List.{List}

@@ -1,4 +1,4 @@
--- T's sheet at level 1 and the least and largest coordinates, byte for byte; what three lists that do not go are answered. Assumes nothing.
+-- T's sheet at level 1 and the least and largest coordinates, byte for byte; what three lists that do not go are answered.
 use Prim.Native.Nat.{ℕ}
 use mathlib.Core.Path.{_≡_, refl}
 use mathlib.Core.List.{List, [], _∷_, _++_, map}

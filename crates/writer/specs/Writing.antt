@@ -1,4 +1,4 @@
--- Request [1]: a sheet from vertex list, face list and levels, into a lent buffer. Assumes nothing.
+-- Request [1]: a sheet from vertex list, face list and levels, into a lent buffer.
 use Prim.Native.Nat.{ℕ}
 use mathlib.Core.Path.{_≡_}
 use mathlib.Core.List.{List, [], _∷_}

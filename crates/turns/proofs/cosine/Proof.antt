@@ -1,5 +1,4 @@
 -- `turns::cosine` meets its contract: the test that the code makes is the definition's.
--- Assumes nothing.
 use borrow.Author.Needs.{needs}
 use borrow.Author.Tests.{le-leb, lt-leb}
 use Rattle.turns.specs.Turns.{cosine}

@@ -1,5 +1,4 @@
 -- `turns::cosines` meets its contract: the code's numbers are the table's.
--- Assumes nothing.
 use mathlib.Core.Path.{refl}
 use Rattle.turns.specs.Table.{cosTable}
 use Rattle.turns.proofs.cosines.Statement.{statement}

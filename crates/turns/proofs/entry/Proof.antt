@@ -1,5 +1,4 @@
 -- `turns::entry` meets its contract: an f32 holds the number that it reads.
--- Assumes nothing.
 use denote.Ref.{now}
 use Prim.Native.Nat.{ℕ}
 use mathlib.Core.Path.{_≡_, ap, ap₂, _∙_}

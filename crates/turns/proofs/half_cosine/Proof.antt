@@ -1,5 +1,4 @@
 -- `turns::half_cosine` meets its contract, by the rule of the table.
--- Assumes nothing.
 use denote.Ref.{now}
 use mathlib.Core.Path.{ap, _∙_}
 use borrow.Author.Needs.{needs}

@@ -1,5 +1,4 @@
 -- `turns::place` meets its contract: one computed test over the places.
--- Assumes nothing.
 use mathlib.Core.Path.{refl}
 use Prim.Native.Nat.{_+_, _*_, _/_, _≤_, _<_}
 use native.Mathlib.Omega.{arith}

@@ -1,5 +1,4 @@
 -- `turns::sines` meets its contract: the code's numbers are the table's.
--- Assumes nothing.
 use mathlib.Core.Path.{refl}
 use Rattle.turns.specs.Table.{sinTable}
 use Rattle.turns.proofs.sines.Statement.{statement}

@@ -1,5 +1,4 @@
 -- `vectors::minor` meets its contract: each `wide` is its argument, and `narrow` is `narrowed`.
--- Assumes nothing.
 use borrow.Author.Needs.{needs}
 use Rattle.vectors.proofs.minor.Statement.{statement}
 use Rattle.vectors.proofs.minor.Tie as tie

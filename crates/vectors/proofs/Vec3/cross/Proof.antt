@@ -1,5 +1,4 @@
 -- `vectors::Vec3::cross` meets its contract, by what `minor` ensures of each component.
--- Assumes nothing.
 use borrow.Author.Needs.{needs}
 use Rattle.vectors.proofs.Vec3.cross.Statement.{statement}
 use Rattle.vectors.proofs.Vec3.cross.Tie as tie

@@ -1,5 +1,4 @@
 -- `vectors::narrow::dropped` meets its contract, by the law of `proofs/Drop.antt` at half of 2 ^ d.
--- Assumes nothing.
 use borrow.Author.Needs.{needs}
 use native.Mathlib.Omega.{arith}
 use Rattle.vectors.proofs.Drop.{half-pos, half-le, dropped-is}

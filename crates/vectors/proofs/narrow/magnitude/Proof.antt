@@ -1,5 +1,4 @@
 -- `vectors::narrow::magnitude` meets its contract, by the laws of `proofs/Read.antt`, one for each answer.
--- Assumes nothing.
 use mathlib.Core.Path.{refl, ap, _∙_}
 use Prim.Native.Nat.{ℕ, _+_, _-_, _/_, _%_, _^_, _≤_, _<_}
 use lib.Ieee.Nearest.{closest}

@@ -1,5 +1,4 @@
 -- `vectors::narrow::narrow` meets its contract: what is read from the pattern of a value that fits is the value.
--- Assumes nothing.
 use mathlib.Core.Path.{_∙_, ap}
 use lib.Ieee.{binary32, ofBits}
 use lib.Ieee.Bits.{ofBits-toBits}

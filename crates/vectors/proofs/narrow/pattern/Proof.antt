@@ -1,5 +1,4 @@
 -- `vectors::narrow::pattern` meets its contract, by the laws of `proofs/Patterns.antt`.
--- Assumes nothing.
 use mathlib.Core.Path.{sym, subst}
 use native.Mathlib.Omega.{arith}
 use lib.Dec.{T}
