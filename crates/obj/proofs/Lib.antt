@@ -5,6 +5,7 @@ pub mod Sound
 pub mod Exact
 pub mod Round
 pub mod Place
+pub mod Most
 pub mod Turns
 pub mod Few
 pub mod Going
