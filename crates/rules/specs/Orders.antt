@@ -3,17 +3,19 @@
 -- statement.
 use mathlib.Core.Path.{_≡_, refl}
 use Prim.Native.Nat.{ℕ, _/_}
-use mathlib.Core.List.{List, [], _∷_, map}
+use mathlib.Core.List.{List, [], _∷_, _++_, map}
 use lib.ListN.{length}
 use lib.IntN.{ℤ, pos, negsuc}
 use lib.Ieee.{Float, binary32, add, sub, mul, div, neg, ofInt, ofBits, toBits}
 use Rattle.lists.specs.Lists.{count}
+use Rattle.vectors.specs.declared.Vec3.{Vec3}
+use Rattle.vectors.specs.Vectors.{origin}
 use Rattle.vectors.specs.Narrow.{narrowed}
 use Rattle.turns.specs.Turns.{cosNumber, sinNumber, halfCosine, halfSine, cosine, sine}
 use Rattle.rules.specs.Mesh.{links, fan, valence, ring, Mesh, cage, refined}
 use Rattle.rules.specs.Position.{single}
 use Rattle.rules.specs.Levels.{coord, last, levels, finer, newPositions, limits, moved, positions}
-use Rattle.rules.specs.Tangents.{normals, normalAt}
+use Rattle.rules.specs.Tangents.{Pair, innerTangents, rimTangents, threeOf, normals, normalAt}
 use Rattle.rules.specs.Cases.{T-faces, T-points, H-faces, H-points}
 
 -- ---- beside T and H: two faces; an open plate with rim valences from 2 to 5; and a closed fan of three on which every order of additions shows
@@ -49,6 +51,31 @@ normalBits l fs xs = words (normals (last single l fs (map (ofInt binary32) xs))
 
 abbrev pub positionBits : ℕ → List ℕ → List ℤ → List (List ℕ)
 positionBits l fs xs = words (positions single (last single l fs (map (ofInt binary32) xs)))
+
+abbrev pub whole3 : ℤ → ℤ → ℤ → Vec3
+whole3 x y z = record { x = ofInt binary32 x; y = ofInt binary32 y; z = ofInt binary32 z }
+
+abbrev pub tangentBits : Pair → List (List ℕ)
+tangentBits p = words (threeOf (p .s)) ++ words (threeOf (p .t))
+
+-- a ring of four whose terms in S are all -0 in y, and in T in x
+abbrev pub signed-ring : List Vec3
+signed-ring =
+    record { x = ofInt binary32 (negsuc 0); y = ofBits binary32 0x80000000; z = ofInt binary32 (pos 1) }
+    ∷ record { x = ofBits binary32 0x80000000; y = ofInt binary32 (negsuc 0); z = ofInt binary32 (pos 2) }
+    ∷ whole3 (negsuc 0) (pos 0) (pos 3)
+    ∷ whole3 (pos 0) (negsuc 2) (pos 5)
+    ∷ []
+
+-- a rim ring of five with full significands
+abbrev pub full-ring : List Vec3
+full-ring =
+    whole3 (negsuc 7609194) (negsuc 1132313) (pos 15663787)
+    ∷ whole3 (negsuc 3625890) (pos 12468736) (negsuc 15378737)
+    ∷ whole3 (pos 11666953) (pos 4778808) (pos 2018285)
+    ∷ whole3 (negsuc 1822370) (negsuc 13447985) (negsuc 14925808)
+    ∷ whole3 (pos 8994416) (pos 4918147) (pos 4483230)
+    ∷ []
 
 pub record Case : Type 0 where
   pub got : List (List ℕ)
@@ -133,6 +160,16 @@ pub all-hold : Hold (
     ∷ (0xC0F1EB84 ∷ 0x3FA8F5CA ∷ 0xC279999A ∷ [])
     ∷ (0xC1170A3D ∷ 0xC07FFFFD ∷ 0xC235C290 ∷ [])
     ∷ (0xC0D70A3F ∷ 0xC03851ED ∷ 0xC20A3D73 ∷ [])
+    ∷ []) ∷
+    -- tangents inside begin at +0, not at -0
+    case (tangentBits (innerTangents signed-ring)) (
+    (0x00000000 ∷ 0x00000000 ∷ 0xC0000000 ∷ [])
+    ∷ (0x00000000 ∷ 0x40000000 ∷ 0xC0400000 ∷ [])
+    ∷ []) ∷
+    -- on the rim from valence 5 on the two ends are added before they are scaled by sin theta, and (2 cos theta - 2) sin(k theta) is worked before a point is scaled by it
+    case (tangentBits (rimTangents origin full-ring)) (
+    (0x4B7D59DB ∷ 0x4AB8A53A ∷ 0xCB2A9A0D ∷ [])
+    ∷ (0x4A5B9C4F ∷ 0xC88A4DD0 ∷ 0xCBC36FF4 ∷ [])
     ∷ []) ∷
     -- positions that change with the order of additions
     case (positionBits 1 cap-faces cap-points) (
