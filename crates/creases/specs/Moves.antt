@@ -8,7 +8,7 @@ use Rattle.rules.specs.Mesh.{links, firsts}
 use Rattle.rules.specs.Position.{refining, Numbers}
 use Rattle.rules.specs.Levels.{three}
 use Rattle.rules.specs.Sharp.{sharp, sharpMoved, sharpEdge}
-use Rattle.rules.proofs.Both.{Both}
+use Rattle.rules.specs.Sound.{Both}
 use Rattle.levels.specs.Level.{meshIn}
 use Rattle.levels.specs.Moves.{Movable}
 use Rattle.marks.specs.Marks.{marksIn}

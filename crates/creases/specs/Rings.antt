@@ -7,7 +7,7 @@ use lib.ListN.{length, getD}
 use Rattle.lists.specs.Lists.{pick}
 use Rattle.rules.specs.Mesh.{backward, Fan, ring}
 use Rattle.rules.specs.Sharp.{sharp, creases}
-use Rattle.rules.proofs.Both.{Both}
+use Rattle.rules.specs.Sound.{Both}
 use Rattle.faces.specs.Words.{linksIn}
 use Rattle.faces.specs.Rings.{Ringable}
 use Rattle.marks.specs.Marks.{marksIn}

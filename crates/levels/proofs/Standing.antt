@@ -3,17 +3,15 @@ use Prim.Native.Nat.{ℕ, _+_, _*_, _≤_, _<_}
 use mathlib.Core.Path.{_≡_, sym, ap, ap₂, _∙_}
 use mathlib.Core.Logic.{_⊎_}
 use mathlib.Core.List.{List}
-use lib.ListN.{length, drop}
+use lib.ListN.{length}
 use Rattle.lists.specs.Lists.{part}
 use Rattle.turns.specs.Turns.{mostValence}
-use Rattle.rules.specs.Mesh.{Mesh, links, firsts, refined}
-use Rattle.rules.specs.Position.{Numbers}
-use Rattle.rules.specs.Levels.{newPositions}
+use Rattle.rules.specs.Mesh.{Mesh, links, firsts}
 use Rattle.rules.proofs.Sound.{Sound}
 use Rattle.rules.proofs.Levels.{Small}
 use Rattle.faces.specs.Words.{Holds}
 use Rattle.faces.proofs.Held.{faces-held, links-held, starts-held}
-use Rattle.levels.specs.Level.{meshIn, Ready, Grown}
+use Rattle.levels.specs.Level.{meshIn, Ready}
 use Rattle.levels.specs.Moves.{Movable}
 
 module _ (w : List ℕ) (at n : ℕ) (m : Mesh) (h : Holds w at m) (p : Sound n m) where
@@ -35,16 +33,6 @@ module _ (w : List ℕ) (at n : ℕ) (m : Mesh) (h : Holds w at m) (p : Sound n 
     small = d;
   }
 
-  module _ (w′ : List ℕ) (to : ℕ) (g : Grown w w′ at to n (m .verts)) where
-    pub holds-after : Holds w′ to (refined m (links (m .faces)))
-    holds-after = rw (mesh-is, faces-held w at n m h (p .good)) at (g .holds)
-
-    pub rest-after : (k : ℕ) → at + 9 * n + m .verts ≤ k → to + 24 * n + (m .verts + length (firsts (links (m .faces)))) ≤ k → drop k w′ ≡ drop k w
-    rest-after k a b = g .rest k a (rw edges-are b)
-
   -- and what the moves ask, and give
   pub movable : Small mostValence m → m .verts + 3 * n < 4294967296 → Movable w at n (m .verts)
   movable few small = record { holds = rw mesh-is h; sound = rw mesh-is p; few = rw mesh-is few; small = small }
-
-  pub points-after : (𝓝 : Numbers) (xs : List (𝓝 .N)) → newPositions 𝓝 (meshIn w at n (m .verts)) (links (part at (3 * n) w)) xs ≡ newPositions 𝓝 m (links (m .faces)) xs
-  points-after 𝓝 xs = rw (mesh-is, faces-held w at n m h (p .good))

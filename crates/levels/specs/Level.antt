@@ -7,7 +7,7 @@ use mathlib.Core.Option.{Option, none, some}
 use lib.ListN.{length, getD, drop}
 use Rattle.lists.specs.Lists.{part}
 use Rattle.rules.specs.Mesh.{onward, backward, corner, links, through, Mesh, firsts, four, restart, refined}
-use Rattle.rules.proofs.Sound.{Sound}
+use Rattle.rules.specs.Sound.{Sound}
 use Rattle.faces.specs.Words.{linkOf, coded, linksIn, Holds}
 
 -- the mesh of n faces and v vertices that stands from `at` on

@@ -9,8 +9,8 @@ use Rattle.turns.specs.Turns.{mostValence}
 use Rattle.rules.specs.Mesh.{links, firsts}
 use Rattle.rules.specs.Position.{refining, Numbers}
 use Rattle.rules.specs.Levels.{three, moved, edgeAt}
-use Rattle.rules.proofs.Sound.{Sound}
-use Rattle.rules.proofs.Levels.{Small}
+use Rattle.rules.specs.Sound.{Sound}
+use Rattle.rules.specs.Sound.{Small}
 use Rattle.faces.specs.Words.{Holds}
 use Rattle.levels.specs.Level.{meshIn}
 

@@ -11,6 +11,7 @@ use mathlib.Core.Option.{Option}
 use lib.Dec.{T, T-not, eqb, eqb→eq, eqb-refl}
 use lib.Ieee.Fits.{and-i, eq→eqb}
 use lib.ListN.{length, getD}
+pub use Rattle.lists.specs.Lists.{At}
 use Rattle.lists.specs.Lists.{pick, bit, count, find, keep, tally}
 use Rattle.lists.proofs.Places.{length-count, getD-count, Look, nowhere, there, look, rank-suc, length-keep}
 
@@ -109,11 +110,6 @@ at-most f (suc m) p n w =
     (suc-le-suc (at-most f m (without p (f m)) n (into-without (f m) (into-fewer w) (λ i h. w .apart i m h (omega arith)))))
 
 -- where they are all that pass, each that passes is one of them
-pub record At (f : ℕ → ℕ) (m x : ℕ) : Type 0 where
-  pub place : ℕ
-  pub below : place < m
-  pub is : f place ≡ x
-
 pub each-is : (f : ℕ → ℕ) (m : ℕ) (p : ℕ → Bool) (n : ℕ) → Into f m p n → tally p (count 0 n) ≤ m → (x : ℕ) → x < n → T (p x) → At f m x
 each-is f m p n w l x h t = go (find (λ i. eqb (f i) x) (count 0 m)) (look (λ i. eqb (f i) x) 0 (count 0 m))
   where

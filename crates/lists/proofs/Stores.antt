@@ -76,11 +76,6 @@ module _ {ℓ} {A : Type ℓ} where
   pub length-cleared : (n : ℕ) (v : A) (d : List A) → n ≤ length d → length (cleared v n d) ≡ length d
   length-cleared n v d h = simp (length-append, length-replicate, length-drop) (omega arith)
 
-  -- one turn more
-  pub turns-more : (f : ℕ → A → A) (n : ℕ) (s : A) → turns f (n + 1) s ≡ f n (turns f n s)
-  unfolding turns
-  turns-more f n s = rw add-one
-
   part-set : (l : List A) (at i n : ℕ) (x : A) → (i + n ≤ at) ⊎ (at < i) → part i n (set l at x) ≡ part i n l
   part-set l at i n x h =
       ⊎-elim

@@ -1,6 +1,7 @@
 -- Lists as docs/RULES.md uses them: places counted from 0, the lowest place where a test passes, how many pass, lists put together from pieces,
 -- and stores at the front of a lent buffer.
-use Prim.Native.Nat.{ℕ, zero, suc, _+_}
+use mathlib.Core.Path.{_≡_}
+use Prim.Native.Nat.{ℕ, zero, suc, _+_, _<_}
 use mathlib.Core.Bool.{Bool, true, false}
 use mathlib.Core.List.{List, [], _∷_, _++_}
 use mathlib.Core.Option.{Option, none, some}
@@ -72,3 +73,9 @@ part at n l = take n (drop at l)
 -- the first n entries z, the rest as it was
 abbrev pub cleared {ℓ} : {A : Type ℓ} → A → ℕ → List A → List A
 cleared z n l = replicate n z ++ drop n l
+
+-- x is among the first m values of f
+pub record At (f : ℕ → ℕ) (m x : ℕ) : Type 0 where
+  pub place : ℕ
+  pub below : place < m
+  pub is : f place ≡ x

@@ -15,7 +15,7 @@ ghost use Rattle.rules.specs.Position.{limit as atLimit, whole};
 ghost use Rattle.rules.specs.Levels.{moved, limits, last};
 ghost use Rattle.rules.specs.Levels.{positions as positionsOf};
 ghost use Rattle.rules.specs.Refusals.{refusal};
-ghost use Rattle.rules.proofs.Range.{AllNear};
+ghost use Rattle.rules.specs.Sound.{AllNear};
 ghost use Rattle.levels.specs.Level.{meshIn};
 ghost use Rattle.levels.specs.Moves.{Movable};
 ghost use Rattle.weights.specs.Lent.{lowered, Raised3};

@@ -9,8 +9,8 @@ use lib.Dec.{eqb, T}
 use lib.ListN.{length, getD}
 use Rattle.lists.specs.Lists.{pick, gather}
 use Rattle.rules.specs.Mesh.{onward, backward, corner, links, restart, Step, home, off, here}
-use Rattle.rules.proofs.Sound.{Sound}
-use Rattle.rules.proofs.Levels.{facesAt}
+use Rattle.rules.specs.Sound.{Sound}
+use Rattle.rules.specs.Sound.{facesAt}
 use Rattle.faces.specs.Words.{coded}
 use Rattle.cage.specs.Chains.{lastBelow}
 use Rattle.outlines.specs.Loops.{isRim, leaving, around, begins}

@@ -7,8 +7,8 @@ use lib.ListN.{length, drop}
 use Rattle.turns.specs.Turns.{mostValence}
 use Rattle.lists.specs.Lists.{part}
 use Rattle.rules.specs.Mesh.{links, Mesh, firsts, refined}
-use Rattle.rules.proofs.Sound.{Sound}
-use Rattle.rules.proofs.Levels.{Small}
+use Rattle.rules.specs.Sound.{Sound}
+use Rattle.rules.specs.Sound.{Small}
 use Rattle.faces.specs.Words.{faceCount}
 use Rattle.levels.specs.Level.{meshIn}
 

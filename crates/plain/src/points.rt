@@ -20,7 +20,7 @@ ghost use Rattle.lists.specs.Lists.{part};
 ghost use Rattle.rules.specs.Mesh.{links};
 ghost use Rattle.rules.specs.Position.{whole, limit as atLimit};
 ghost use Rattle.rules.specs.Sharp.{sharpMoved, sharpNew, sharpLimits};
-ghost use Rattle.rules.proofs.Range.{AllNear};
+ghost use Rattle.rules.specs.Sound.{AllNear};
 ghost use Rattle.weights.specs.Lent.{lowered, Raised3};
 ghost use Rattle.levels.specs.Level.{meshIn};
 ghost use Rattle.levels.specs.Moves.{Placed, edgesIn};

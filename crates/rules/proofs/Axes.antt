@@ -1,6 +1,6 @@
 -- Request 11: a cage turned and then subdivided is the plate turned, in whole micrometres, since a half goes away from zero.
 use mathlib.Core.Path.{_≡_, refl, sym, ap, ap₂, _∙_}
-use Prim.Native.Nat.{ℕ, zero, suc, _+_, _*_, _/_, _<_, _≤_, min, max}
+use Prim.Native.Nat.{ℕ, zero, suc, _+_, _*_, _/_, min, max}
 use native.Mathlib.Omega.{arith}
 use mathlib.Core.Bool.{Bool, true, false, not}
 use mathlib.Core.List.{List, [], _∷_, _++_, map, append-nil}
@@ -11,7 +11,7 @@ use lib.Dec.{leb}
 use Rattle.lists.specs.Lists.{pick, later, find, count, gather}
 use Rattle.lists.proofs.Places.{length-count, length-gather}
 use Rattle.whole.specs.Whole.{reach, inRange, nearest}
-use Rattle.whole.proofs.Reading.{up, dn, is-self, is-pos, is-neg, is-add, is-mul, is-eq}
+use Rattle.whole.proofs.Reading.{is-self, is-pos, is-neg, is-add, is-mul, is-eq}
 use Rattle.whole.proofs.Half.{nearest-odd}
 use Rattle.rules.specs.Mesh.{onward, backward, corner, links, Fan, inner, rim, endless, fan, ring, Mesh, cage, firsts, refined}
 use Rattle.rules.specs.Position.{Stage, refining, limit, Rule, each, outOf, own, sum, ringRule, rimRule, whole}
@@ -22,7 +22,6 @@ use Rattle.rules.specs.Sharp.{sharp, creases, byCreases, creased, sharpM
 use Rattle.rules.specs.declared.Counts.{Counts}
 use Rattle.rules.proofs.Checks.{Stages, check-none, shape-of, stages-of}
 use Rattle.rules.proofs.Related.{same-mesh}
-use Rattle.rules.proofs.Sharp.{sharp-mesh}
 
 -- ---- turns by themselves
 
@@ -191,14 +190,6 @@ module _ (t : Turn) where
       let p : 3 * suc v + number d ≡ suc (suc (suc (3 * v + number d))) = omega arith in
       let q : 3 * suc v + number (t .source d) ≡ suc (suc (suc (3 * v + number (t .source d)))) = omega arith in
       rw (p, q) (coord-turned k xs (omega arith) v d)
-
-  -- what is worked by axis
-  three-turned : (f g : ℕ → ℤ) → ((d : Axis) → g (number d) ≡ sign (t .negates d) (f (number (t .source d)))) → three whole g ≡ turned t (three whole f)
-  unfolding turned
-  three-turned f g h = cons3 (at xAxis) (at yAxis) (at zAxis) refl
-    where
-      at : (d : Axis) → g (number d) ≡ sign (t .negates d) (along (t .source d) (f 0) (f 1) (f 2))
-      at d = h d ∙ ap (sign (t .negates d)) (sym (along-of (λ e. f (number e)) (t .source d)))
 
   gather-turned : (f g : ℕ → ℕ → ℤ) → ((x : ℕ) (d : Axis) → g x (number d) ≡ sign (t .negates d) (f x (number (t .source d)))) → (l : List ℕ) (more : List ℤ)
       → gather (λ x. three whole (g x)) l ++ turned t more ≡ turned t (gather (λ x. three whole (f x)) l ++ more)

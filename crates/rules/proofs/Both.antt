@@ -9,17 +9,14 @@ use lib.Dec.{eqb, leb, eqb→eq}
 use lib.ListN.{length, getD}
 use Rattle.lists.specs.Lists.{pick, count, later, find, found, gather}
 use Rattle.lists.proofs.Places.{length-count, getD-count, getD-map, getD-gather}
-use Rattle.rules.specs.Mesh.{onward, backward, links, through, restart, fourth}
+pub use Rattle.rules.specs.Sound.{Both}
+use Rattle.rules.specs.Mesh.{onward, links, through, restart, fourth}
 use Rattle.rules.specs.Sharp.{sharp, names, namesAcross, marksOf, marksBy, finerMarks, unlinked}
-use Rattle.rules.proofs.Refine.{Good, finerOf, Third, k0, k1, k2, third, length-finer, on-at, step3}
+use Rattle.rules.proofs.Refine.{Good, finerOf, Third, k0, k1, k2, third, on-at, step3}
 use Rattle.rules.proofs.Sides.{length-links}
 use Rattle.rules.proofs.Faces.{link-below, link-link}
 use Rattle.rules.proofs.Links.{half1, half2}
 use Rattle.rules.proofs.Grown.{twelve, twelve-at}
-
-pub record Both (n : ℕ) (ls : List (Option ℕ)) (ms : List Bool) : Type 0 where
-  pub same : (s t : ℕ) → s < 3 * n → getD ls s none ≡ some t → sharp ms s ≡ sharp ms t
-  pub rim : (s : ℕ) → s < 3 * n → getD ls s none ≡ none → sharp ms s ≡ false
 
 -- ---- the marks of the children
 

@@ -4,16 +4,15 @@ use mathlib.Core.Logic.{_≢_}
 use Prim.Native.Nat.{ℕ, _+_, _*_, _/_, _<_}
 use native.Mathlib.Omega.{arith}
 use native.Mathlib.Decide.{ℕ-discrete}
-use mathlib.Core.Bool.{Bool, true, false, _&&_, _||_}
+use mathlib.Core.Bool.{Bool, true, false, _||_}
 use mathlib.Core.List.{List}
 use mathlib.Core.Option.{none, some}
 use lib.Dec.{T, eqb, eqb→eq}
-use lib.Ieee.Fits.{and-l, and-r}
 use lib.ListN.{getD}
 use Rattle.rules.specs.Mesh.{onward, backward, corner, links}
-use Rattle.rules.specs.Refusals.{has, sameSet}
+use Rattle.rules.specs.Refusals.{has}
 use Rattle.rules.proofs.Sides.{on-back, on-twice, Twins, twin-some, twin-back}
-use Rattle.rules.proofs.Refine.{Good, inside, outside, uniq, back-below, back-twice, ab, bc, ca}
+use Rattle.rules.proofs.Refine.{Good, inside, outside, uniq, back-below, ab, bc, ca}
 
 -- the sides of one face
 pub data Turn (s t : ℕ) : Type 0 where
@@ -108,51 +107,3 @@ module _ (v n : ℕ) (fs : List ℕ) (g : Good v n fs) where
       go (back p) =
           let q : s ≡ onward a = sym (ap onward p ∙ on-back s) in
           absurd (two-edges a b t (rw p (back-below s n h)) x (rw q at w) (sym f))
-
-  -- no two faces have one corner set
-  pub sets-differ : (f k : ℕ) → f < n → k < n → T (sameSet fs f k) → f ≡ k
-  sets-differ f k hf hk t =
-      let a = corner fs (3 * f) in
-      let b = corner fs (3 * f + 1) in
-      let c = corner fs (3 * f + 2) in
-      let u = has a b c (corner fs (3 * k)) in
-      let w = has a b c (corner fs (3 * k + 1)) in
-      let y = has a b c (corner fs (3 * k + 2)) in
-      let p = and-l (u && w) y t in
-      go (has-at fs f _ (and-l u w p)) (has-at fs f _ (and-r u w p)) (has-at fs f _ (and-r (u && w) y t))
-    where
-      o1 : onward (3 * k) ≡ 3 * k + 1
-      o1 = omega arith
-
-      o2 : backward (3 * k) ≡ 3 * k + 2
-      o2 = omega arith
-
-      hs : 3 * k < 3 * n
-      hs = omega arith
-
-      go : OnFace fs f (corner fs (3 * k)) → OnFace fs f (corner fs (3 * k + 1)) → OnFace fs f (corner fs (3 * k + 2)) → f ≡ k
-      go p q r = first (turn (p .at) (q .at) (q .face ∙ sym (p .face)))
-        where
-          s : ℕ
-          s = p .at
-
-          h : s < 3 * n
-          h = omega (arith, p .face)
-
-          second : q .at ≡ backward s → Turn s (r .at) → ⊥
-          second e (same z) = ca v n fs g (3 * k) hs (sym (p .is) ∙ ap (corner fs) (sym z) ∙ r .is ∙ ap (corner fs) (sym o2))
-          second e (back z) = bc v n fs g (3 * k) hs (ap (corner fs) o1 ∙ sym (q .is) ∙ ap (corner fs) (e ∙ sym z) ∙ r .is ∙ ap (corner fs) (sym o2))
-          second e (on z) = g .unfolded (backward s) (3 * k) (back-below s n h)
-              (record {
-                below = inside v n fs g hs;
-                from = sym (p .is) ∙ ap (corner fs) (sym (on-back s));
-                to = ap (corner fs) o1 ∙ sym (q .is) ∙ ap (corner fs) e;
-              })
-              (ap (corner fs) (back-twice s ∙ sym z) ∙ r .is ∙ ap (corner fs) (sym o2))
-
-          first : Turn s (q .at) → f ≡ k
-          first (same e) = absurd (ab v n fs g (3 * k) hs (sym (p .is) ∙ ap (corner fs) (sym e) ∙ q .is ∙ ap (corner fs) (sym o1)))
-          first (on e) =
-              let z : s ≡ 3 * k = g .unique s (3 * k) h hs (p .is) (ap (corner fs) (sym e) ∙ q .is ∙ ap (corner fs) (sym o1)) in
-              omega (arith, p .face)
-          first (back e) = absurd (second e (turn s (r .at) (r .face ∙ sym (p .face))))

@@ -6,6 +6,8 @@ use native.Mathlib.Decide.{decLt}
 use mathlib.Core.List.{List, _++_, map}
 use mathlib.Core.Option.{Option, none, some}
 use lib.ListN.{length, getD}
+pub use Rattle.rules.specs.Sound.{facesAt, valenceAt}
+unfoldable pub use Rattle.rules.specs.Sound.{Small}
 use Rattle.rules.specs.Mesh.{links, rims, restart, fourth, firsts, fan, valence, Mesh, refined}
 use Rattle.rules.specs.Position.{Numbers}
 use Rattle.rules.specs.Levels.{Sizes, after, Level, finer, levels}
@@ -19,11 +21,6 @@ use Rattle.rules.proofs.Totals.{rims-finer, edges-finer}
 unfoldable pub level : ℕ → Mesh → Mesh
 level zero m = m
 level (suc l) m = level l (refined m (links (m .faces)))
-
--- faces after l levels
-abbrev pub facesAt : ℕ → ℕ → ℕ
-facesAt zero n = n
-facesAt (suc l) n = facesAt l (4 * n)
 
 pub sound-level : (l n : ℕ) (m : Mesh) → Sound n m → Sound (facesAt l n) (level l m)
 unfolding level
@@ -92,12 +89,6 @@ rims-level (suc l) n m w =
     ∙ (let p : 2 ^ suc l ≡ 2 * 2 ^ l = omega arith in rw p (omega arith))
 
 -- ---- valences: those of the cage stay, and the others are 6 and 4
-
-abbrev pub valenceAt : Mesh → ℕ → ℕ
-valenceAt m v = valence (fan (links (m .faces)) (getD (m .starts) v 0))
-
-unfoldable pub Small : ℕ → Mesh → Type 0
-Small b m = (v : ℕ) → v < m .verts → valenceAt m v ≤ b
 
 pub small-refined : (b n : ℕ) (m : Mesh) → 6 ≤ b → Sound n m → Small b m → Small b (refined m (links (m .faces)))
 unfolding Small refined

@@ -3,17 +3,16 @@ use mathlib.Core.Path.{_≡_, refl, sym, ap}
 use mathlib.Core.Logic.{_↔_}
 use Prim.Native.Nat.{ℕ, _+_, _-_, _*_, _<_, _≤_}
 use native.Mathlib.Omega.{arith}
-use mathlib.Core.Bool.{not}
 use mathlib.Core.List.{List}
 use mathlib.Core.Option.{Option, none, some}
-use lib.Dec.{T, leb→le, le→leb, nleb→lt}
+use lib.Dec.{T, leb→le}
 use lib.ListN.{length, getD}
 use Rattle.lists.specs.Lists.{count, tally}
 use Rattle.rules.specs.Mesh.{links, isFirst, firstOf, firstMet, meeting, firsts}
 use Rattle.lists.proofs.Places.{rank-inj}
 use Rattle.lists.proofs.Counting.{Kept, kept}
-use Rattle.rules.proofs.Sides.{length-links, Twins, twin-some}
-use Rattle.rules.proofs.Refine.{Good, Shares, itself, across, midOf, edges, mid-below, middle-twin, middle-shares, meeting-first, link-is, inside}
+use Rattle.rules.proofs.Sides.{length-links}
+use Rattle.rules.proofs.Refine.{Good, Shares, itself, across, midOf, edges, mid-below, middle-twin, middle-shares, meeting-first}
 
 first-self : (s : ℕ) (o : Option ℕ) → T (isFirst s o) → firstOf s o ≡ s
 first-self s none t = refl
@@ -60,32 +59,7 @@ module _ (v n : ℕ) (fs : List ℕ) (g : Good v n fs) where
       let r = rw z at (k .rank) in
       rank-inj (firstMet ls) a (meeting ls s) (k .passes) (meeting-first v n fs g s h) (omega (arith, r))
 
-  -- every number in the range is the number of an edge
-  pub middle-onto : (m : ℕ) → v ≤ m → m < v + edges v n fs g → (s : ℕ) × (s < 3 * n) × (midOf v fs s ≡ m)
-  middle-onto m h k =
-      let f = first-at (m - v) (omega arith) in
-      (getD (firsts (links fs)) (m - v) 0, f .below, omega (arith, f .is))
-
   -- ---- for a loop over the sides in order: a first side gets the next number, and a later one has the number of its link
 
   pub middle-first : (s : ℕ) → T (firstMet (links fs) s) → midOf v fs s ≡ v + tally (firstMet (links fs)) (count 0 s)
   middle-first s t = ap (λ (x : ℕ). v + tally (firstMet (links fs)) (count 0 x)) (first-self s (getD (links fs) s none) t)
-
-  pub middle-later : (s : ℕ) → s < 3 * n → T (not (firstMet (links fs) s)) → (t : ℕ) × (getD (links fs) s none ≡ some t) × (t < s) × (midOf v fs s ≡ midOf v fs t)
-  middle-later s h f = go (getD (links fs) s none) refl f
-    where
-      go : (o : Option ℕ) → getD (links fs) s none ≡ o → T (not (isFirst s o)) → (t : ℕ) × (getD (links fs) s none ≡ some t) × (t < s) × (midOf v fs s ≡ midOf v fs t)
-      go none e k = absurd k
-      go (some t) e k = (t, e, nleb→lt s t k, middle-twin v n fs g s t h (twin-some fs s t (inside v n fs g h) e))
-
-  -- by looking through the face list, without links: a side is the first of its edge where no side before it runs the other way
-  pub first-iff : (s : ℕ) → s < 3 * n → T (firstMet (links fs) s) ↔ ((t : ℕ) → t < s → ¬ Twins fs s t)
-  first-iff s h = (λ f t l w. to (getD (links fs) s none) (link-is v n fs g s t h w) f l, λ k. from (getD (links fs) s none) refl k)
-    where
-      to : {t : ℕ} (o : Option ℕ) → o ≡ some t → T (isFirst s o) → t < s → ⊥
-      to {t} none e f l = absurd (let z : _≡_ {A = ℕ} 0 1 = cc in omega arith)
-      to {t} (some x) e f l = let q : x ≡ t = cc in omega (arith, leb→le s x f)
-
-      from : (o : Option ℕ) → getD (links fs) s none ≡ o → ((t : ℕ) → t < s → ¬ Twins fs s t) → T (isFirst s o)
-      from none e k = tt
-      from (some x) e k = le→leb s x (let a : ¬ (x < s) = λ l. k x l (twin-some fs s x (inside v n fs g h) e) in omega arith)

@@ -4,7 +4,7 @@ use Prim.Native.Nat.{ℕ, _+_, _*_, _<_, _≤_}
 use native.Mathlib.Omega.{arith}
 use native.Mathlib.Nat.{mul-le-mul-left}
 use mathlib.Core.List.{List}
-use mathlib.Core.Option.{Option, none}
+use mathlib.Core.Option.{none}
 use lib.ListN.{length, getD}
 use lib.IntN.{ℤ, pos, natAbs, _+ℤ_, _*ℤ_}
 use Rattle.lists.proofs.Pairs.{Pairs, nil, cons, pairs-at, pairs-of}
@@ -13,14 +13,14 @@ use Rattle.whole.proofs.Reading.{is-self, is-pos, is-add, is-mul, abs-le, le-ab
 use Rattle.whole.proofs.Rounding.{Rounds, nearest-range}
 use Rattle.whole.proofs.Half.{nearest-rounds}
 use Rattle.whole.proofs.Sums.{inRange-near}
-use Rattle.rules.specs.Mesh.{Mesh}
+pub use Rattle.rules.specs.Sound.{AllNear}
 use Rattle.rules.specs.Position.{Rule, each, outOf, own, sum, wholeBy, whole}
-use Rattle.rules.specs.Levels.{Level, first, last, levels, newPositions, limits, positions}
+use Rattle.rules.specs.Levels.{Level, first, last, levels, limits, positions}
 use Rattle.rules.specs.Refusals.{refusal}
 use Rattle.rules.proofs.Fans.{T-true}
 use Rattle.rules.proofs.Cage.{accepted}
 use Rattle.rules.proofs.Weights.{AddsUp}
-use Rattle.rules.proofs.Related.{Keeps, related-new, related-limits, related-levels, related-positions}
+use Rattle.rules.proofs.Related.{Keeps, related-levels, related-positions}
 
 -- ---- a sum of numbers in range, of weight w in all
 
@@ -74,9 +74,6 @@ module _ (round : ℤ → ℕ → ℤ) (N : Rounds round) where
 
 -- ---- lists of coordinates
 
-pub record AllNear (xs : List ℤ) : Type 0 where
-  pub at : (i : ℕ) → Near (getD xs i (pos 0))
-
 pub paired : {xs : List ℤ} → AllNear xs → Pairs In xs xs
 paired {xs} h = pairs-of In (pos 0) (pos 0) xs xs refl (λ i k. h .at i)
 
@@ -85,12 +82,6 @@ unpaired p = record { at = λ i. pairs-at In (pos 0) (pos 0) (record { size = om
 
 abbrev pub keeps : Keeps whole whole (λ e. In)
 keeps = keeps-range nearest nearest-rounds
-
-pub near-new : (m : Mesh) (ls : List (Option ℕ)) (xs : List ℤ) → AllNear xs → AllNear (newPositions whole m ls xs)
-near-new m ls xs h = unpaired (related-new whole whole (λ e. In) keeps 0 xs xs (paired h) m ls)
-
-pub near-limits : (m : Mesh) (ls : List (Option ℕ)) (xs : List ℤ) → AllNear xs → AllNear (limits whole m ls xs)
-near-limits m ls xs h = unpaired (related-limits whole whole (λ e. In) keeps 0 xs xs (paired h) m ls)
 
 pub near-levels : (l : ℕ) (a : Level whole) → AllNear (a .points) → AllNear (levels whole l a .points)
 near-levels l a h = unpaired (related-levels whole whole (λ e. In) keeps l 0 (a .mesh) (a .points) (a .points) (paired h))

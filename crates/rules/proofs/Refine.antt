@@ -10,17 +10,10 @@ use mathlib.Core.Option.{Option, none, some}
 use lib.Dec.{T, leb, leb→le, le→leb, nleb→lt}
 use lib.ListN.{length, getD}
 use Rattle.lists.specs.Lists.{count, tally, gather}
+pub use Rattle.rules.specs.Sound.{Good}
 use Rattle.rules.specs.Mesh.{firsts, onward, backward, corner, links, firstOf, firstMet, meeting, middle, children, restart, fourth}
 use Rattle.lists.proofs.Places.{length-count, getD-count, rank-inj, rank-lt, length-keep, length-gather, getD-gather}
 use Rattle.rules.proofs.Sides.{length-links, back-on, on-back, on-twice, on-below, Twins, Unique, twin-some, twin-is, twin-back}
-
--- what the checks 2, 5, 6, 7 and 8 leave of a mesh of n faces and v vertices: `unfolded` is what is left of 8, two faces on one edge have other far corners
-pub record Good (v n : ℕ) (fs : List ℕ) : Type 0 where
-  pub size : length fs ≡ 3 * n
-  pub below : (s : ℕ) → s < 3 * n → corner fs s < v
-  pub apart : (s : ℕ) → s < 3 * n → corner fs s ≢ corner fs (onward s)
-  pub unique : (s t : ℕ) → s < 3 * n → t < 3 * n → corner fs s ≡ corner fs t → corner fs (onward s) ≡ corner fs (onward t) → s ≡ t
-  pub unfolded : (s t : ℕ) → s < 3 * n → Twins fs s t → corner fs (backward s) ≢ corner fs (backward t)
 
 -- a side is the first, the second or the third of its face
 pub data Third (s : ℕ) : Type 0 where

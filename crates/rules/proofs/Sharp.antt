@@ -1,8 +1,8 @@
 -- Request 6: with marks the whole engine stays as near to the exact limit as without; and with none it gives what it gave before.
-use mathlib.Core.Path.{_≡_, refl, sym, ap, _∙_}
+use mathlib.Core.Path.{_≡_, refl, ap, _∙_}
 use Prim.Native.Nat.{ℕ, zero, suc, _+_, _*_, _/_, zero-le, suc-le-suc}
 use native.Mathlib.Omega.{arith}
-use mathlib.Core.Bool.{Bool, true, false, _||_}
+use mathlib.Core.Bool.{Bool, false}
 use mathlib.Core.List.{List, [], _∷_, _++_, map}
 use mathlib.Core.Option.{Option, none, some}
 use lib.ListN.{length, getD, length-map}
@@ -11,20 +11,20 @@ use Rattle.lists.specs.Lists.{pick, count, keep, gather}
 use Rattle.lists.proofs.Places.{length-count, length-gather}
 use Rattle.lists.proofs.Pairs.{Pairs, nil, cons, pairs-at, pairs-append, pairs-map, pairs-gather}
 use Rattle.whole.specs.Whole.{nearest}
-use Rattle.whole.specs.Fraction.{Fraction, ofWhole, Within}
+use Rattle.whole.specs.Fraction.{ofWhole, Within}
 use Rattle.whole.proofs.Rounding.{Rounds}
 use Rattle.whole.proofs.Half.{nearest-rounds}
-use Rattle.whole.proofs.Nearness.{Close, within, close-zero, close-whole}
-use Rattle.rules.specs.Mesh.{onward, backward, corner, links, Fan, inner, rim, endless, fan, ring, Mesh, cage, firsts, refined}
+use Rattle.whole.proofs.Nearness.{Close, within, close-zero}
+use Rattle.rules.specs.Mesh.{onward, backward, corner, links, Fan, inner, rim, fan, ring, Mesh, cage, firsts, refined}
 use Rattle.rules.specs.Position.{Stage, refining, limit, Rule, ringRule, rimRule, Numbers, whole, wholeBy, exact}
-use Rattle.rules.specs.Levels.{ends, coord, three, blended, moved, edgeAt, newPositions, limits, first, finer, levels, last, positions, Level}
+use Rattle.rules.specs.Levels.{coord, three, blended, moved, edgeAt, newPositions, limits, first, finer, levels, last, positions, Level}
 use Rattle.rules.specs.Refusals.{Room, refusal}
 use Rattle.rules.specs.Answers.{outcome, written}
 use Rattle.rules.specs.Calls.{Lent, Buffers, wholeRoom, SharpCall, WholeCall}
 use Rattle.rules.specs.declared.Counts.{Counts}
 use Rattle.rules.specs.declared.Outcome.{Outcome}
-use Rattle.rules.specs.Sharp.{sharp, names, namesAcross, marksOf, twelveMarks, marksBy, finerMarks, creases, byCreases, creased, sharpMoved, sharpEdge, sharpNew, sharpLimits, SharpLevel, sharpFirst, sharpFiner, sharpLevels, sharpLast, sharpPositions, sharpExact, sharpRefusal, sharpOutcome}
-use Rattle.rules.proofs.Weights.{AddsUp, ring-adds-up, rim-adds-up}
+use Rattle.rules.specs.Sharp.{sharp, names, namesAcross, marksOf, twelveMarks, marksBy, finerMarks, creases, byCreases, creased, sharpMoved, sharpEdge, sharpNew, sharpLimits, SharpLevel, sharpFiner, sharpLevels, sharpLast, sharpPositions, sharpExact, sharpRefusal, sharpOutcome}
+use Rattle.rules.proofs.Weights.{ring-adds-up, rim-adds-up}
 use Rattle.rules.proofs.Related.{Filled, round, fringe, lost, filled, Keeps, at, of-three, of-edge}
 use Rattle.rules.proofs.Bound.{keeps-close, control, close-as}
 
@@ -157,9 +157,6 @@ module _ (𝓝 : Numbers) (ms : List Bool) (h : Smooth ms) where
   gather-same : (f g : ℕ → List (𝓝 .N)) → ((x : ℕ) → f x ≡ g x) → (l : List ℕ) → gather f l ≡ gather g l
   gather-same f g e [] = refl
   gather-same f g e (x ∷ l) = rw (e x, gather-same f g e l)
-
-  edge-smooth : (fs : List ℕ) (xs : List (𝓝 .N)) (s : ℕ) (o : Option ℕ) (c : ℕ) → sharpEdge 𝓝 fs xs s (sharp ms s) o c ≡ edgeAt 𝓝 fs xs s o c
-  edge-smooth fs xs s o c = rw (h .at s)
 
   pub new-smooth : (m : Mesh) (ls : List (Option ℕ)) (xs : List (𝓝 .N)) → sharpNew 𝓝 m ls ms xs ≡ newPositions 𝓝 m ls xs
   unfolding sharpNew newPositions

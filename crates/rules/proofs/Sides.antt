@@ -8,6 +8,7 @@ use lib.Dec.{T, not-T, eqb, eqb→eq}
 use lib.Ieee.Fits.{and-i, and-l, and-r, eq→eqb}
 use lib.ListN.{length, getD, length-map}
 use Rattle.lists.specs.Lists.{count, find}
+pub use Rattle.rules.specs.Sound.{Twins}
 use Rattle.rules.specs.Mesh.{onward, backward, corner, Side, side, sides, opposite, links}
 use Rattle.lists.proofs.Places.{length-count, getD-count, getD-map, Found, find-is, find-some}
 
@@ -53,11 +54,6 @@ module _ (fs : List ℕ) where
       ∙ ap (λ (a : Side). find (opposite a) (sides fs)) (getD-sides s off h)
 
 -- t runs the edge of s the other way
-pub record Twins (fs : List ℕ) (s t : ℕ) : Type 0 where
-  pub below : t < length fs
-  pub from : corner fs t ≡ corner fs (onward s)
-  pub to : corner fs (onward t) ≡ corner fs s
-
 -- no directed side is used twice
 abbrev pub Unique : List ℕ → Type 0
 Unique fs = (s t : ℕ) → s < length fs → t < length fs → corner fs s ≡ corner fs t → corner fs (onward s) ≡ corner fs (onward t) → s ≡ t

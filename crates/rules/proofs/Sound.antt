@@ -7,20 +7,16 @@ use mathlib.Core.List.{List, [], _∷_, _++_, map}
 use mathlib.Core.Option.{Option, none, some}
 use lib.ListN.{length, getD, length-map, length-append, List·getD-append}
 use lib.Seq.{getD-append-add}
+pub use Rattle.rules.specs.Sound.{In, Sound}
 use Rattle.rules.specs.Mesh.{onward, corner, links, restart, fourth, firsts, Fan, inner, rim, endless, fan, corners, Mesh, refined}
 use Rattle.lists.proofs.Places.{getD-map}
 use Rattle.rules.proofs.Sides.{Twins}
-use Rattle.lists.proofs.Counting.{At}
 use Rattle.rules.proofs.Refine.{Good, Shares, itself, across, finerOf, midOf, good-finer, edges, Kind, first, second, cut, core, kind, link-is, middle-shares, at-restart, at-fourth}
 use Rattle.rules.proofs.Links.{half2, restart-below, fourth-below}
 use Rattle.rules.proofs.Fans.{mapFan, fan-finer}
 use Rattle.rules.proofs.Number.{first-at}
 use Rattle.rules.proofs.Turns.{fan-ends}
 use Rattle.rules.proofs.Edges.{fan-inner, fan-rim}
-
--- x is in the list
-abbrev pub In : List ℕ → ℕ → Type 0
-In cs x = At (λ i. getD cs i 0) (length cs) x
 
 pub in-at : (cs : List ℕ) (k x : ℕ) → k < length cs → getD cs k 0 ≡ x → In cs x
 in-at cs k x h e = record { place = k; below = h; is = e }
@@ -33,14 +29,6 @@ pub corners-as : (r : ℕ → ℕ) (f : Fan) → corners (mapFan r f) ≡ map r 
 corners-as r (inner cs) = refl
 corners-as r (rim cs) = refl
 corners-as r endless = refl
-
--- every vertex starts at a corner of its own, and the fan from there has every corner of the vertex
-pub record Sound (n : ℕ) (m : Mesh) : Type 0 where
-  pub good : Good (m .verts) n (m .faces)
-  pub sized : length (m .starts) ≡ m .verts
-  pub below : (v : ℕ) → v < m .verts → getD (m .starts) v 0 < 3 * n
-  pub starts : (v : ℕ) → v < m .verts → corner (m .faces) (getD (m .starts) v 0) ≡ v
-  pub whole : (v x : ℕ) → v < m .verts → x < 3 * n → corner (m .faces) x ≡ v → In (corners (fan (links (m .faces)) (getD (m .starts) v 0))) x
 
 module _ (v n : ℕ) (fs : List ℕ) (g : Good v n fs) where
   -- the corners of an old vertex

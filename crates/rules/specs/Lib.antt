@@ -5,6 +5,7 @@ pub mod Tangents
 pub mod Refusals
 pub mod Answers
 pub mod Sharp
+pub mod Sound
 pub mod Axes
 pub mod Sheets
 pub mod Calls

@@ -13,7 +13,7 @@ ghost use Rattle.rules.specs.Mesh.{links, cage};
 ghost use Rattle.rules.specs.Position.{limit as atLimit, whole};
 ghost use Rattle.rules.specs.Levels.{last};
 ghost use Rattle.rules.specs.Sharp.{sharpMoved, sharpLimits, sharpLast, sharpPositions};
-ghost use Rattle.rules.proofs.Range.{AllNear};
+ghost use Rattle.rules.specs.Sound.{AllNear};
 ghost use Rattle.faces.specs.Words.{Holds};
 ghost use Rattle.weights.specs.Lent.{lowered, Raised3};
 ghost use Rattle.levels.specs.Level.{meshIn};

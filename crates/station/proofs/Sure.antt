@@ -85,9 +85,6 @@ ours-long l fs xs =
     ∙ ap (λ (m : Mesh). 3 * m .verts) (same-mesh whole exact l fs xs (map ofWhole xs) (sym (length-map xs ofWhole)))
     ∙ sym (length-limits exact (b .mesh) (links (b .mesh .faces)) (b .points))
 
-true-T : (b : Bool) → b ≡ true → T b
-true-T b e = rw e tt
-
 or-first : (a b : Bool) → T a → T (a || b)
 or-first true b t = tt
 or-first false b t = absurd t

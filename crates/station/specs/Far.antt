@@ -11,7 +11,7 @@ use lib.Signed.{mag}
 use Rattle.lists.specs.Lists.{pick, part}
 use Rattle.whole.specs.Whole.{reach, raise}
 use Rattle.whole.specs.Fraction.{Fraction, ofWhole}
-use Rattle.whole.proofs.Value.{Val}
+use Rattle.whole.specs.Fraction.{Val}
 use Rattle.turns.specs.Turns.{mostValence}
 use Rattle.rules.specs.Mesh.{onward, backward, corner, links, refined}
 use Rattle.rules.specs.Position.{Stage, refining, exact}

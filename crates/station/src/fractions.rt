@@ -14,7 +14,7 @@ ghost use Rattle.whole.specs.Whole.{reach};
 ghost use Rattle.whole.specs.Fraction.{ofWhole};
 ghost use Rattle.rules.specs.Mesh.{links, firstMet, middle};
 ghost use Rattle.rules.specs.Position.{exact};
-ghost use Rattle.rules.proofs.Range.{AllNear};
+ghost use Rattle.rules.specs.Sound.{AllNear};
 ghost use Rattle.weights.specs.Weights.{staged};
 ghost use Rattle.weights.specs.Lent.{weighing, weighings, byRing, Readable, AllReadable, Whole};
 ghost use Rattle.levels.specs.Moves.{Movable};

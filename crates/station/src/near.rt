@@ -17,7 +17,7 @@ ghost use Rattle.rules.specs.Mesh.{links, firstMet};
 ghost use Rattle.rules.specs.Position.{whole};
 ghost use Rattle.rules.specs.Levels.{exactLimits};
 ghost use Rattle.rules.specs.Refusals.{refusal};
-ghost use Rattle.rules.proofs.Range.{AllNear};
+ghost use Rattle.rules.specs.Sound.{AllNear};
 ghost use Rattle.levels.specs.Moves.{Movable, edgesIn};
 ghost use Rattle.station.specs.Acceptance.{needsAt};
 ghost use Rattle.station.specs.Lift.{lift, between, needOver};

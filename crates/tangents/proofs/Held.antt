@@ -3,27 +3,16 @@ use mathlib.Core.Path.{_≡_, ap}
 use Prim.Native.Nat.{ℕ}
 use mathlib.Core.List.{List}
 use Rattle.lists.specs.Lists.{count, gather}
-use Rattle.turns.specs.Turns.{mostValence}
 use Rattle.rules.specs.Mesh.{links, Mesh}
 use Rattle.rules.specs.Position.{single}
 use Rattle.rules.specs.Levels.{Level, positions}
 use Rattle.rules.specs.Tangents.{normalAt, normals}
 use Rattle.rules.proofs.Sound.{Sound}
-use Rattle.rules.proofs.Levels.{Small}
-use Rattle.rules.proofs.Spokes.{length-positions}
 use Rattle.faces.specs.Words.{Holds}
 use Rattle.levels.proofs.Standing.{mesh-is}
-use Rattle.tangents.specs.Normals.{Smooth, normalIn}
+use Rattle.tangents.specs.Normals.{normalIn}
 
 module _ (w : List ℕ) (at n : ℕ) (a : Level single) (h : Holds w at (a .mesh)) (p : Sound n (a .mesh)) where
-  pub smooth-level : Small mostValence (a .mesh) → Smooth w at n (a .mesh .verts) (positions single a)
-  smooth-level few = let e = mesh-is w at n (a .mesh) h p in record {
-    holds = rw e h;
-    sound = rw e p;
-    small = rw e few;
-    sized = length-positions single a;
-  }
-
   -- they are the normals of docs/RULES.md
   pub normals-level : gather (normalIn w at n (a .mesh .verts) (positions single a)) (count 0 (a .mesh .verts)) ≡ normals a
   unfolding normals

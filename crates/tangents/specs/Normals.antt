@@ -9,8 +9,8 @@ use Rattle.lists.specs.Lists.{pick}
 use Rattle.turns.specs.Turns.{mostValence}
 use Rattle.rules.specs.Mesh.{links}
 use Rattle.rules.specs.Tangents.{point, Pair, innerTangents, rimTangents, normalAt}
-use Rattle.rules.proofs.Sound.{Sound}
-use Rattle.rules.proofs.Levels.{Small}
+use Rattle.rules.specs.Sound.{Sound}
+use Rattle.rules.specs.Sound.{Small}
 use Rattle.faces.specs.Words.{Holds}
 use Rattle.levels.specs.Level.{meshIn}
 use Rattle.tangents.specs.declared.Tangents.{Tangents}
