@@ -24,7 +24,7 @@ extern "C" {
 #endif
 
 /* Counts up when something in this file changes, or what a call answers. */
-#define PLATES_VERSION 12
+#define PLATES_VERSION 13
 
 /* The stack that a call may take, in bytes: give a thread as much, and what its own functions take besides. Where a system gives a thread 128 KB, the calls on lists run in it;
    a call on sheets holds the sheet's lists too, the one for rim loops tables of the cage, that on a claim the cage's words. */
@@ -43,7 +43,9 @@ extern "C" {
 #define PLATES_ROOM_LIST (PLATES_MOST + PLATES_MOST_IN_CAGE / 3) /* 34,133: every vertex on the rim, and as many loops as a cage can have, of three sides each */
 #define PLATES_ROOM_TEXT (58 * PLATES_MOST)     /* 1,900,544 bytes of OBJ text: 38 of a `v` line, 20 of an `f` line */
 
-/* What told[0] says. docs/HANDBOOK.md has a section on each, with what the place counts and what to do. (16 is the programs' alone: the input is too long. 11 is not used.) */
+/* What told[0] says: docs/HANDBOOK.md has a section on each. (16 is the programs' alone: the input is too long. 11 is not used.) PLATES_EACH_REFUSAL(USE) is USE(name, meaning, place, remedy) of
+   each but PLATES_DONE, the last three as strings: what it means, what the place is, what to do. */
+/* made from bin/refusals by docs/make-texts */
 enum plates_refusal {
     PLATES_DONE = 0,
     PLATES_TOO_MANY_LEVELS = 1,
@@ -62,7 +64,7 @@ enum plates_refusal {
     PLATES_NOT_A_SHEET = 15,
     PLATES_NO_ROOM_FOR_SHEET = 17,
     PLATES_SIDE_CANNOT_BE_SHARP = 18,
-    PLATES_BAD_BATCH = 19, /* the number that plates_subdivide_sheets returns */
+    PLATES_BAD_BATCH = 19,
     PLATES_NO_ROOM_FOR_LOOPS = 20,
     PLATES_CLAIM_NOT_JUDGED = 21,
     PLATES_NO_ROOM_FOR_TEXT = 22,
@@ -70,6 +72,31 @@ enum plates_refusal {
     PLATES_NO_ROOM_FOR_LISTS = 24,
     PLATES_NO_TEXT = 25
 };
+#define PLATES_EACH_REFUSAL(USE) \
+    USE(PLATES_TOO_MANY_LEVELS, "too many levels", "always 0", "ask for 7 or fewer") \
+    USE(PLATES_LIST_CUT_OFF, "a list is cut off", "0 for the corners, 1 for the coordinates", "give three corners to a face and three coordinates to a vertex") \
+    USE(PLATES_CAGE_TOO_LARGE, "the control cage is too large", "0 for its faces, 1 for its vertices", "use a coarser cage and one more level") \
+    USE(PLATES_COORDINATE_OUT_OF_RANGE, "a coordinate is out of range", "the coordinate, three to a vertex", "look for a wrong unit") \
+    USE(PLATES_CORNER_NAMES_NO_VERTEX, "a corner names no vertex", "the corner, three to a face", "number the vertices from 0") \
+    USE(PLATES_EQUAL_CORNERS, "a face with equal corners", "the face", "leave it out") \
+    USE(PLATES_SIDE_USED_TWICE, "a side is used twice in the same direction", "the side, three to a face", "turn the face over, or take one away where three meet at an edge") \
+    USE(PLATES_FACE_ON_ANOTHER, "a face on top of another", "the later face", "leave one of the two out, or give the plate thickness") \
+    USE(PLATES_VERTEX_ON_NO_FACE, "a vertex on no face", "the vertex", "take it out") \
+    USE(PLATES_TWO_FANS, "two fans meet in one point", "the vertex", "give each fan a vertex of its own") \
+    USE(PLATES_TOO_MANY_RAYS, "too many rays", "the vertex", "split the hub in two") \
+    USE(PLATES_LAST_LEVEL_TOO_LARGE, "the last level is too large", "always 0", "take a level less") \
+    USE(PLATES_BUFFER_SHORT, "a lent buffer is short", "the buffer: 0 positions, 1 normals, 2 indices, 3 work words, 4 work coordinates", "with `platecut` take a level less or use the library; from C lend more") \
+    USE(PLATES_NOT_A_SHEET, "not a sheet", "always 0", "see that something comes in, and write the sheet again") \
+    USE(PLATES_NO_ROOM_FOR_SHEET, "no room for the sheet", "always 0", "lend the writer 98,324 bytes") \
+    USE(PLATES_SIDE_CANNOT_BE_SHARP, "a listed side cannot be sharp", "its index in the list of sharp sides", "take it out of the list, or name the side that you mean") \
+    USE(PLATES_BAD_BATCH, "the batch does not add up", "always 0", "cut at most 64 sheets at once; from C look at the lengths, and lend five answer entries a sheet") \
+    USE(PLATES_NO_ROOM_FOR_LOOPS, "no room for the loops", "always 0", "lend the list 34,133 entries") \
+    USE(PLATES_CLAIM_NOT_JUDGED, "a claim is not judged at that tolerance or level", "always 0", "give a tolerance from 0 to 1,000, and a cage at level 0 or 1") \
+    USE(PLATES_NO_ROOM_FOR_TEXT, "no room for the text", "always 0", "lend 1,900,544 bytes, which is room for every text") \
+    USE(PLATES_NOT_OF_THE_FORM, "not of the form", "the first byte that cannot stand, or the length", "look at that byte; export in the plain form, whole micrometres, or let `bin/sheet` read it") \
+    USE(PLATES_NO_ROOM_FOR_LISTS, "no room for the lists", "always 0", "lend 98,304 entries to each list, which is room for every text") \
+    USE(PLATES_NO_TEXT, "no text for these lists", "always 0", "give three numbers to a vertex and a face, corners from 0 that name a vertex, at most 32,768 of each")
+/* made thus far */
 
 /* Whole micrometres, -1,000,000,000 to 1,000,000,000. `sharp` lists sides whose edges stay sharp (docs/RULES.md): side 3 f + k of face f runs from its corner k to the next.
    An edge may be named from either of its faces or from both, in any order and as often as one likes; an edge on the rim may not. At sharp_length 0 no edge is sharp. */
