@@ -45,7 +45,7 @@ extern "C" {
 
 /* What told[0] says: docs/HANDBOOK.md has a section on each. (16 is the programs' alone: the input is too long. 11 is not used.) PLATES_EACH_REFUSAL(USE) is USE(name, meaning, place, remedy) of
    each but PLATES_DONE, the last three as strings: what it means, what the place is, what to do. */
-/* made from bin/refusals by docs/make-texts */
+/* made by docs/make-texts */
 enum plates_refusal {
     PLATES_DONE = 0,
     PLATES_TOO_MANY_LEVELS = 1,
