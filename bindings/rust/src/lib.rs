@@ -1,36 +1,142 @@
-//! A safe way into the static library of crate `plates` from Rust, and a small use of it. Built and run by tests/gate-rust.
-//! tests/gate-declarations holds the declarations below to crates/plates/src/lib.rt. That a pointer and its length belong together is said at each `unsafe`, and nothing proves it.
+//! Loop subdivision to the limit surface: a safe way into the static library of crate `plates`, with the standard library and nothing else.
+//!
+//! A cage is a number of levels, a list of corners, three to a face, and a list of coordinates, three to a vertex. Every list of numbers gets an answer, a mesh or a [`Refusal`]; nothing has to be checked
+//! beforehand. The calls keep nothing between them and may be made from any number of threads. A call on lists takes less than 112 KB of its thread's stack, one on sheets, on a rim or on a claim less than
+//! 208 KB; a thread that the standard library makes has 2 MB.
+//!
+//! ```
+//! let plate = plates::loop_subdivide_whole(1, &[0, 1, 2], &[0, 0, 0, 8, 0, 0, 0, 8, 0], &[])?;
+//! assert_eq!((plate.positions.len(), plate.faces.len(), plate.rim_sides), (6, 4, 6));
+//! assert_eq!(plate.positions[0], [1, 1, 0]);
+//! # Ok::<(), plates::Refusal>(())
+//! ```
+//!
+//! build.rs links libplates.a from the folder that the environment's PLATES_LIB names, else from where bin/install or bin/library puts it. tests/gate-declarations holds the declarations below to
+//! crates/plates/src/lib.rt. That a pointer and its length belong together is said at each `unsafe`, and nothing proves it.
+#![deny(missing_docs)]
 
-/// Why a cage or a sheet was refused: docs/HANDBOOK.md explains each number.
-#[derive(Debug, PartialEq)]
+use std::error::Error;
+use std::fmt;
+
+// made by docs/make-texts
+/// PLATES_VERSION of the plates.h that these calls are of.
+pub const VERSION: u32 = 13;
+
+/// The number of each refusal, what it means, what the place is, and what to do.
+pub const REFUSALS: &[(u32, &str, &str, &str)] = &[
+    (1, "too many levels", "always 0", "ask for 7 or fewer"),
+    (2, "a list is cut off", "0 for the corners, 1 for the coordinates", "give three corners to a face and three coordinates to a vertex"),
+    (3, "the control cage is too large", "0 for its faces, 1 for its vertices", "use a coarser cage and one more level"),
+    (4, "a coordinate is out of range", "the coordinate, three to a vertex", "look for a wrong unit"),
+    (5, "a corner names no vertex", "the corner, three to a face", "number the vertices from 0"),
+    (6, "a face with equal corners", "the face", "leave it out"),
+    (7, "a side is used twice in the same direction", "the side, three to a face", "turn the face over, or take one away where three meet at an edge"),
+    (8, "a face on top of another", "the later face", "leave one of the two out, or give the plate thickness"),
+    (9, "a vertex on no face", "the vertex", "take it out"),
+    (10, "two fans meet in one point", "the vertex", "give each fan a vertex of its own"),
+    (12, "too many rays", "the vertex", "split the hub in two"),
+    (13, "the last level is too large", "always 0", "take a level less"),
+    (14, "a lent buffer is short", "the buffer: 0 positions, 1 normals, 2 indices, 3 work words, 4 work coordinates", "with `platecut` take a level less or use the library; from C lend more"),
+    (15, "not a sheet", "always 0", "see that something comes in, and write the sheet again"),
+    (16, "the input is too long", "always 0", "use a coarser cage, or the library"),
+    (17, "no room for the sheet", "always 0", "lend the writer 98,324 bytes"),
+    (18, "a listed side cannot be sharp", "its index in the list of sharp sides", "take it out of the list, or name the side that you mean"),
+    (19, "the batch does not add up", "always 0", "cut at most 64 sheets at once; from C look at the lengths, and lend five answer entries a sheet"),
+    (20, "no room for the loops", "always 0", "lend the list 34,133 entries"),
+    (21, "a claim is not judged at that tolerance or level", "always 0", "give a tolerance from 0 to 1,000, and a cage at level 0 or 1"),
+    (22, "no room for the text", "always 0", "lend 1,900,544 bytes, which is room for every text"),
+    (23, "not of the form", "the first byte that cannot stand, or the length", "look at that byte; export in the plain form, whole micrometres"),
+    (24, "no room for the lists", "always 0", "lend 98,304 entries to each list, which is room for every text"),
+    (25, "no text for these lists", "always 0", "give three numbers to a vertex and a face, corners from 0 that name a vertex, at most 32,768 of each"),
+];
+// made thus far
+
+/// Why a cage, a sheet, a batch, a claim or a text was refused. docs/HANDBOOK.md has a section on each number.
+///
+/// ```
+/// let no = plates::loop_subdivide_whole(1, &[0, 1, 3], &[0, 0, 0, 8, 0, 0, 0, 8, 0], &[]).unwrap_err();
+/// assert_eq!((no.number, no.place, no.remedy()), (5, 2, "number the vertices from 0"));
+/// assert_eq!(no.to_string(), "refused 5 at 2: a corner names no vertex; the place is the corner, three to a face; number the vertices from 0");
+/// let _: Box<dyn std::error::Error> = no.into();
+/// ```
+#[derive(Clone, Copy, Debug, PartialEq, Eq)]
 pub struct Refusal {
+    /// Which refusal it is.
     pub number: u32,
+    /// Where, as [`Refusal::place_is`] counts it.
     pub place: u32,
 }
 
-#[derive(Debug, PartialEq)]
+impl Refusal {
+    fn row(&self) -> (u32, &'static str, &'static str, &'static str) {
+        let unknown = "not a number of the handbook";
+        *REFUSALS.iter().find(|row| row.0 == self.number).unwrap_or(&(0, unknown, unknown, unknown))
+    }
+
+    /// What it means.
+    pub fn meaning(&self) -> &'static str {
+        self.row().1
+    }
+
+    /// What the place is.
+    pub fn place_is(&self) -> &'static str {
+        self.row().2
+    }
+
+    /// What to do.
+    pub fn remedy(&self) -> &'static str {
+        self.row().3
+    }
+}
+
+impl fmt::Display for Refusal {
+    fn fmt(&self, f: &mut fmt::Formatter<'_>) -> fmt::Result {
+        write!(f, "refused {} at {}: {}; the place is {}; {}", self.number, self.place, self.meaning(), self.place_is(), self.remedy())
+    }
+}
+
+impl Error for Refusal {}
+
+/// A plate in whole micrometres.
+#[derive(Clone, Debug, PartialEq, Eq)]
 pub struct Mesh {
+    /// Its vertices.
     pub positions: Vec<[i32; 3]>,
+    /// Three numbers of vertices to a face.
     pub faces: Vec<[u32; 3]>,
+    /// How many sides are on the rim.
     pub rim_sides: u32,
 }
 
-/// In f32, with normals, which are not made unit.
-#[derive(Debug, PartialEq)]
+/// A plate in f32, with normals.
+#[derive(Clone, Debug, PartialEq)]
 pub struct FloatMesh {
+    /// Its vertices.
     pub positions: Vec<[f32; 3]>,
+    /// One to a vertex, not made unit.
     pub normals: Vec<[f32; 3]>,
+    /// Three numbers of vertices to a face.
     pub faces: Vec<[u32; 3]>,
+    /// How many sides are on the rim.
     pub rim_sides: u32,
 }
 
-/// Whether a plate made elsewhere passes, or what is wrong first; of a coordinate, counted 3 vertex + axis, the tolerance that it needs.
-#[derive(Debug, PartialEq)]
+/// Whether a plate made elsewhere passes, or what is wrong first.
+#[derive(Clone, Copy, Debug, PartialEq, Eq)]
 pub enum Verdict {
+    /// It passes.
     Yes,
+    /// It has not as many vertices and faces as the plate.
     CountsDiffer,
+    /// This face is not the plate's in that position, or goes round the other way.
     FaceDiffers(u32),
-    TooFar { coordinate: u32, needs: u32 },
+    /// A coordinate is too far from the exact limit.
+    TooFar {
+        /// Which, counted 3 vertex + axis.
+        coordinate: u32,
+        /// The least tolerance at which it passes.
+        needs: u32,
+    },
 }
 
 extern "C" {
@@ -188,8 +294,16 @@ fn subdivide(call: WholeCall, levels: u32, indices: &[u32], coords: &[i32], shar
     mesh(told, &positions, &out)
 }
 
-/// Whole micrometres, with the edges of the sides in `sharp` (3 face + side) sharp. Every list of numbers gets a mesh or a refusal; nothing has to be checked beforehand. A thread of 112 KB of stack does
-/// (crates/plates/plates.h), and one that the standard library makes has 2 MB.
+/// Whole micrometres, with the edges of the sides in `sharp` (3 face + side) sharp.
+///
+/// ```
+/// let (indices, coords) = ([0, 1, 2, 0, 2, 3], [0, 0, 0, 8, 0, 0, 8, 8, 0, 0, 8, 4]);
+/// let soft = plates::loop_subdivide_whole(2, &indices, &coords, &[])?;
+/// let sharp = plates::loop_subdivide_whole(2, &indices, &coords, &[2])?;
+/// assert_eq!(soft.faces, sharp.faces);
+/// assert_ne!(soft.positions, sharp.positions);
+/// # Ok::<(), plates::Refusal>(())
+/// ```
 pub fn loop_subdivide_whole(levels: u32, indices: &[u32], coords: &[i32], sharp: &[u32]) -> Result<Mesh, Refusal> {
     subdivide(plates_loop_subdivide_whole, levels, indices, coords, sharp)
 }
@@ -343,6 +457,12 @@ pub fn subdivide_sheets(sheets: &[&[u8]]) -> Result<Vec<Result<Mesh, Refusal>>, 
 }
 
 /// The rim of a plate as loops of points, in the faces' direction, for a tool that follows it. A closed plate has none.
+///
+/// ```
+/// let loops = plates::outline(0, &[0, 1, 2], &[0, 0, 0, 8, 0, 0, 0, 8, 0])?;
+/// assert_eq!(loops, [[[1, 1, 0], [5, 1, 0], [1, 5, 0]]]);
+/// # Ok::<(), plates::Refusal>(())
+/// ```
 pub fn outline(levels: u32, indices: &[u32], coords: &[i32]) -> Result<Vec<Vec<[i32; 3]>>, Refusal> {
     let mut positions = vec![0i32; 3 * MOST];
     let mut out = vec![0u32; 3 * MOST];
@@ -377,6 +497,13 @@ pub fn outline(levels: u32, indices: &[u32], coords: &[i32]) -> Result<Vec<Vec<[
 }
 
 /// The OBJ text of lists, corners counted from 0; or 25.
+///
+/// ```
+/// let text = plates::write_obj(&[0, 0, 0, 8, 0, 0, 0, 8, 0], &[0, 1, 2])?;
+/// assert_eq!(text, b"v 0 0 0\nv 8 0 0\nv 0 8 0\nf 1 2 3\n");
+/// assert_eq!(plates::read_obj(&text)?, (vec![0, 0, 0, 8, 0, 0, 0, 8, 0], vec![0, 1, 2]));
+/// # Ok::<(), plates::Refusal>(())
+/// ```
 pub fn write_obj(coords: &[i32], corners: &[u32]) -> Result<Vec<u8>, Refusal> {
     let mut text = vec![0u8; MOST_TEXT];
     let mut told = [0u32; 3];
@@ -418,73 +545,4 @@ pub fn read_obj(text: &[u8]) -> Result<(Vec<i32>, Vec<u32>), Refusal> {
     coords.truncate(3 * vertices as usize);
     corners.truncate(3 * faces as usize);
     Ok((coords, corners))
-}
-
-fn main() {
-    let triangle = [0, 0, 0, 8, 0, 0, 0, 8, 0];
-    match loop_subdivide_whole(1, &[0, 1, 2], &triangle, &[]) {
-        Ok(mesh) => {
-            println!("mesh {} {} {}", mesh.positions.len(), mesh.faces.len(), mesh.rim_sides);
-            mesh.positions.iter().for_each(|p| println!("v {} {} {}", p[0], p[1], p[2]));
-            mesh.faces.iter().for_each(|f| println!("f {} {} {}", f[0], f[1], f[2]));
-        }
-        Err(r) => println!("refused {} at {}", r.number, r.place),
-    }
-    let one = vec![0, 1, 2];
-    for (levels, indices, coords, sharp) in [
-        (8, one.clone(), &triangle[..], vec![]),
-        (0, vec![0, 1, 2, 0, 2, 1], &triangle[..], vec![]),
-        (0, vec![0, 1, 3], &triangle[..], vec![]),
-        (0, one, &triangle[..], vec![0]),
-        (0, vec![], &[], vec![]),
-    ] {
-        match loop_subdivide_whole(levels, &indices, coords, &sharp) {
-            Ok(mesh) => println!("mesh {} {} {}", mesh.positions.len(), mesh.faces.len(), mesh.rim_sides),
-            Err(r) => println!("refused {} at {}", r.number, r.place),
-        }
-    }
-    for (levels, indices) in [(1, vec![0, 1, 2]), (0, vec![0, 1, 3])] {
-        match write_sheet(levels, &indices, &triangle) {
-            Ok(sheet) => println!("sheet {}", sheet.iter().map(|b| format!("{b:02x}")).collect::<String>()),
-            Err(r) => println!("refused {} at {}", r.number, r.place),
-        }
-    }
-    for levels in [1, 8] {
-        match outline(levels, &[0, 1, 2], &triangle) {
-            Ok(loops) => println!("loops {loops:?}"),
-            Err(r) => println!("refused {} at {}", r.number, r.place),
-        }
-    }
-    let sheet = write_sheet(1, &[0, 1, 2], &triangle).expect("T has a sheet");
-    for batch in [vec![&sheet[..], &sheet[1..], &sheet[..]], vec![&sheet[..]; 65]] {
-        match subdivide_sheets(&batch) {
-            Ok(answers) => answers.iter().for_each(|a| match a {
-                Ok(mesh) => println!("mesh {} {} {}, the last vertex at {:?}", mesh.positions.len(), mesh.faces.len(), mesh.rim_sides, mesh.positions[5]),
-                Err(r) => println!("refused {} at {}", r.number, r.place),
-            }),
-            Err(r) => println!("refused {} at {}", r.number, r.place),
-        }
-    }
-    for (corners, broken) in [([0, 1, 2], false), ([0, 1, 3], false), ([0, 1, 2], true)] {
-        match write_obj(&triangle, &corners).and_then(|text| read_obj(&text[..text.len() - broken as usize])) {
-            Ok((coords, corners)) => println!("OBJ text of {} coordinates and {} corners, read as it was: {}", coords.len(), corners.len(), coords == triangle && corners == [0, 1, 2]),
-            Err(r) => println!("refused {} at {}", r.number, r.place),
-        }
-    }
-    let folded = [0, 1, 2, 0, 2, 3];
-    let alike = [(2, vec![]), (2, vec![2]), (0, vec![4])].iter().all(|(levels, sharp)| {
-        let points = [0, 0, 0, 8, 0, 0, 8, 8, 0, 0, 8, 4];
-        loop_subdivide_plain(*levels, &folded, &points, sharp) == loop_subdivide_whole(*levels, &folded, &points, sharp)
-    });
-    println!("the plain engine answers as the linked one: {alike}");
-    match loop_subdivide(0, &[0, 1, 2], &[0.0, 0.0, 0.0, 8.0, 0.0, 0.0, 0.0, 8.0, 0.0]) {
-        Ok(mesh) => println!("in f32 vertex 0 at {:?}, its normal {:?}", mesh.positions[0], mesh.normals[0]),
-        Err(r) => println!("refused {} at {}", r.number, r.place),
-    }
-    println!("the sheet is cut as its lists: {}", subdivide_sheet(&sheet) == loop_subdivide_whole(1, &[0, 1, 2], &triangle, &[]));
-    println!("19 bytes of it: {:?}", subdivide_sheet(&sheet[..19]));
-    let cut = [1, 1, 0, 5, 1, 0, 1, 5, 0];
-    for (tolerance, corners) in [(1, [1, 2, 0]), (0, [1, 2, 0]), (1, [1, 0, 2]), (1_001, [0, 1, 2])] {
-        println!("a claim of T at {tolerance}: {:?}", accept(0, tolerance, (&[0, 1, 2], &triangle), (&corners, &cut)));
-    }
 }
