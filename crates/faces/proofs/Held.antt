@@ -1,6 +1,5 @@
 -- What a caller of the walks and rings has where the words hold a mesh that the checks have passed.
 use mathlib.Core.Path.{_≡_, refl, sym, ap, ap₂, _∙_}
-use mathlib.Core.Logic.{_≢_}
 use Prim.Native.Nat.{ℕ, zero, suc, _+_, _*_, _≤_, _<_}
 use native.Mathlib.Omega.{arith}
 use mathlib.Core.List.{List, [], _∷_}
@@ -17,10 +16,9 @@ use Rattle.rules.proofs.Turns.{fan-ends}
 use Rattle.rules.proofs.Sound.{Sound}
 use Rattle.rules.proofs.Levels.{Small}
 use Rattle.faces.specs.Words.{linkOf, coded, linksIn, faceCount, Holds}
-use Rattle.faces.specs.Rings.{Walkable, Mated, Ringable, turnOf, valenceOf, ringOf}
+use Rattle.faces.specs.Rings.{Walkable, Mated, Ringable, ringOf}
 use Rattle.faces.specs.declared.Turn.the-variants as turn
 use Rattle.faces.proofs.Links.{getD-linksIn}
-use Rattle.faces.proofs.Trails.{endless-is}
 
 -- ---- link words and links, one for one
 
@@ -83,9 +81,6 @@ module _ (w : List ℕ) (at n : ℕ) (m : Mesh) (h : Holds w at m) (g : Good (m 
   pub fan-held : (s : ℕ) → fan (linksIn w (at + 3 * n) (3 * n)) s ≡ fan (links (m .faces)) s
   fan-held s = ap (λ (l : List (Option ℕ)). fan l s) links-held
 
-  pub turn-ends : (s : ℕ) → s < 3 * n → turnOf (fan (linksIn w (at + 3 * n) (3 * n)) s) ≢ turn.Endless
-  turn-ends s k e = fan-ends (m .verts) n (m .faces) g s k (sym (fan-held s) ∙ endless-is (fan (linksIn w (at + 3 * n) (3 * n)) s) e)
-
   mates : Mated w at (at + 3 * n) n
   mates = record {
     from = λ i t k e.
@@ -120,9 +115,6 @@ module _ (w : List ℕ) (at n : ℕ) (m : Mesh) (h : Holds w at m) (p : Sound n 
   pub start-below : getD w (at + 6 * n + v) 0 < 3 * n
   start-below = rw start-is (p .below v k)
 
-  pub start-walkable : Walkable w (at + 3 * n) n (getD w (at + 6 * n + v) 0)
-  start-walkable = walkable w at n m h (p .good) (getD w (at + 6 * n + v) 0) start-below
-
   pub start-ringable : Small mostValence m → Ringable w at (at + 3 * n) n (getD w (at + 6 * n + v) 0)
   unfolding Small
   start-ringable few = ringable w at n m h (p .good) (getD w (at + 6 * n + v) 0) start-below (rw start-is (few v k))
@@ -137,12 +129,7 @@ module _ (w : List ℕ) (at n : ℕ) (m : Mesh) (h : Holds w at m) (p : Sound n 
       ringOf (m .faces) (fan (links (m .faces)) (getD (m .starts) v 0))
   start-ring-of = ring-of-held w at n m h (p .good) (getD w (at + 6 * n + v) 0) ∙ ap (λ (s : ℕ). ringOf (m .faces) (fan (links (m .faces)) s)) start-is
 
--- ---- a turn has the valence of its fan, and so has a ring
-
-pub valence-turn : (f : Fan) → valenceOf (turnOf f) ≡ valence f
-valence-turn (inner cs) = refl
-valence-turn (rim cs) = refl
-valence-turn endless = refl
+-- ---- a ring has the valence of its fan
 
 pub length-ring : (fs : List ℕ) (f : Fan) → length (ring fs f) ≡ valence f
 length-ring fs (inner cs) = length-map cs _

@@ -14,12 +14,12 @@ use Rattle.rules.specs.Mesh as mesh
 use Rattle.rules.specs.Mesh.{closed, ended, long, walk, passed, stopOf, Stop, home, off, here, nextCorner, prevCorner, Fan, inner, rim, endless, rimFan, fanOf, fan, valence}
 use Rattle.rules.proofs.Walks.{trail, chain, last-stop, Stopped, all-of}
 use Rattle.faces.specs.Words.{linksIn}
-use Rattle.faces.specs.Rings.{Walkable, Ends, stepOf, tripBy, tripOf, turnOf}
+use Rattle.faces.specs.Rings.{Walkable, Ends, stepOf, tripBy, tripOf}
 use Rattle.faces.specs.declared.Step.{Step}
 use Rattle.faces.specs.declared.Step.the-variants as step
 use Rattle.faces.specs.declared.Trip.the-variants as trip
 use Rattle.faces.specs.declared.Turn.the-variants as turn
-use Rattle.faces.proofs.Links.{next-below, prev-below, length-linksIn}
+use Rattle.faces.proofs.Links.{next-below, length-linksIn}
 
 pub some-passed : (next : ℕ → mesh.Step) (n s : ℕ) → 0 < n → 0 < length (trail next n (here s))
 some-passed next zero s h = absurd (not-suc-le-zero h)
@@ -44,9 +44,6 @@ module _ (w : List ℕ) (at n s : ℕ) (p : Walkable w at n s) where
 
   pub next-trail : (k : ℕ) → k < length (trail (nextCorner (linksIn w at (3 * n)) s) n (here s)) → getD (trail (nextCorner (linksIn w at (3 * n)) s) n (here s)) k 0 < 3 * n
   next-trail k h = all-of (nextCorner (linksIn w at (3 * n)) s) (λ x. x < 3 * n) (λ x t b e. next-below w at n s p s x t b (ap stepOf e)) n s k (p .start) h
-
-  pub prev-trail : (k : ℕ) → k < length (trail (prevCorner (linksIn w at (3 * n)) s) n (here s)) → getD (trail (prevCorner (linksIn w at (3 * n)) s) n (here s)) k 0 < 3 * n
-  prev-trail k h = all-of (prevCorner (linksIn w at (3 * n)) s) (λ x. x < 3 * n) (λ x t b e. prev-below w at n s p s x t b (ap stepOf e)) n s k (p .start) h
 
   pub last-below : lastOf 0 (trail (nextCorner (linksIn w at (3 * n)) s) n (here s)) < 3 * n
   last-below =
@@ -124,11 +121,6 @@ closed-long e q = let z : _≡_ {A = ℕ} 0 1 = cc in omega arith
 
 ended-long : {st : Stop} → st ≡ ended → st ≢ long
 ended-long e q = let z : _≡_ {A = ℕ} 0 1 = cc in omega arith
-
-pub endless-is : (f : Fan) → turnOf f ≡ turn.Endless → f ≡ endless
-endless-is (inner cs) q = absurd (let z : _≡_ {A = ℕ} 0 1 = cc in omega arith)
-endless-is (rim cs) q = absurd (let z : _≡_ {A = ℕ} 0 1 = cc in omega arith)
-endless-is endless q = refl
 
 module _ (ls : List (Option ℕ)) (n s : ℕ) (size : length ls / 3 ≡ n) where
   fan-as : fan ls s ≡ fanOf ls n (trail (nextCorner ls s) n (here s)) (stopOf (walk (nextCorner ls s) n (here s)))
