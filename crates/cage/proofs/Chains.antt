@@ -16,7 +16,7 @@ use Rattle.rules.specs.Mesh.{onward, corner, Side, side, sides}
 use Rattle.rules.specs.Refusals.{same, usedBefore}
 use Rattle.rules.proofs.Sides.{length-sides, getD-sides}
 use Rattle.cage.specs.Chains.{lastBelow, leaves, runs, Heads, Chained}
-use Rattle.cage.proofs.Search.{failed}
+use Rattle.limits.proofs.Search.{failed}
 
 module _ (p : ℕ → Bool) where
   last-le-by : (b : Bool) (k : ℕ) → p k ≡ b → lastBelow p k ≤ k → lastBelow p (suc k) ≤ suc k

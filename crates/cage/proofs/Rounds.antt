@@ -22,9 +22,9 @@ use Rattle.faces.specs.Words.{linkOf, coded, linksIn}
 use Rattle.faces.specs.Rings.{turnOf, valenceOf}
 use Rattle.cage.specs.Chains.{lastBelow, leaves, before, Heads}
 use Rattle.cage.specs.Fans.{Tallied, Used, shortOf}
-use Rattle.cage.specs.Verdicts.{verdictOf}
-use Rattle.cage.specs.declared.Check.the-variants.{Pass}
-use Rattle.cage.proofs.Search.{passes}
+use Rattle.limits.specs.Verdicts.{verdictOf}
+use Rattle.limits.specs.declared.Check.the-variants.{Pass}
+use Rattle.limits.proofs.Search.{passes}
 use Rattle.cage.proofs.Chains.{found-last, eqb-sym}
 use Rattle.cage.proofs.Across.{link-coded}
 

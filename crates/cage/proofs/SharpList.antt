@@ -23,11 +23,11 @@ use Rattle.rules.specs.declared.Outcome.the-variants.{Success}
 use Rattle.rules.proofs.Sides.{length-links}
 use Rattle.rules.proofs.Sharp.{sharp-mesh}
 use Rattle.faces.specs.Words.{coded}
-use Rattle.cage.specs.Verdicts.{verdictOf}
+use Rattle.limits.specs.Verdicts.{verdictOf}
 use Rattle.cage.specs.Fans.{Linked}
 use Rattle.cage.specs.Sizes.{cageCounts}
-use Rattle.cage.specs.declared.Check.the-variants.{Pass}
-use Rattle.cage.proofs.Search.{at, passed, failed, find-nowhere}
+use Rattle.limits.specs.declared.Check.the-variants.{Pass}
+use Rattle.limits.proofs.Search.{at, passed, failed, find-nowhere}
 use Rattle.cage.proofs.Sizes.{counts-of}
 
 -- ---- one listed side

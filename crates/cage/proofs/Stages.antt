@@ -17,11 +17,11 @@ use Rattle.rules.specs.declared.Outcome.{Outcome}
 use Rattle.rules.specs.declared.Outcome.the-variants.{Refused}
 use Rattle.rules.proofs.Checks.{Shape, check-none, apart-side, unique-sides, unfolded-sides}
 use Rattle.rules.proofs.Refine.{Good}
-use Rattle.cage.specs.Verdicts.{verdictOf}
+use Rattle.limits.specs.Verdicts.{verdictOf}
 use Rattle.cage.specs.Chains.{Faces, Below, Apart, Once}
 use Rattle.cage.specs.Sizes.{judged, fromNine, fromSeven, fromFive, Listed}
-use Rattle.cage.specs.declared.Check.the-variants.{Pass, No}
-use Rattle.cage.proofs.Search.{passes}
+use Rattle.limits.specs.declared.Check.the-variants.{Pass, No}
+use Rattle.limits.proofs.Search.{passes}
 
 -- ---- one stage after another
 

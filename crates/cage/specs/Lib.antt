@@ -1,4 +1,3 @@
-pub mod Verdicts
 pub mod Chains
 pub mod Fans
 pub mod Sizes

@@ -1,33 +1,25 @@
--- What is counted ahead, and the stages that are left after each.
-use Prim.Native.Nat.{ℕ, _*_, _/_, _^_}
+-- The counts of a control cage, and the stages that are left after each check.
+use Prim.Native.Nat.{ℕ, _*_, _/_}
 use mathlib.Core.Path.{_≡_}
-use mathlib.Core.Bool.{_||_}
 use mathlib.Core.List.{List}
 use mathlib.Core.Option.{Option, none}
-use lib.Dec.{ltb}
 use lib.ListN.{length}
 use Rattle.lists.specs.Lists.{find, lowest, found}
 use Rattle.rules.specs.Sharp.{unlinked, told}
 use Rattle.rules.specs.Mesh.{sides, links, rims, cage}
-use Rattle.rules.specs.Levels.{Sizes, sizes, after}
-use Rattle.rules.specs.Refusals.{mostInMesh, check, _orElse_, when, sameSet, usedBefore, listRefusal, fanRefusal, sizeRefusal}
+use Rattle.rules.specs.Levels.{sizes}
+use Rattle.rules.specs.Refusals.{check, _orElse_, sameSet, usedBefore, listRefusal, fanRefusal, sizeRefusal}
 use Rattle.rules.specs.Answers.{unless}
 use Rattle.rules.specs.declared.Refusal.{Refusal}
 use Rattle.rules.specs.declared.Counts.{Counts}
 use Rattle.rules.specs.declared.Outcome.{Outcome}
 use Rattle.rules.specs.declared.Outcome.the-variants.{Success}
+use Rattle.limits.specs.Sizes.{countsAfter}
 use Rattle.cage.specs.Chains.{Below, Apart, Once}
 
--- the counts after l levels of a mesh of these sizes and r rim sides
-abbrev pub countsAfter : ℕ → Sizes → ℕ → Counts
-countsAfter l c r = record { vertices = after l c .verts; faces = after l c .faces; rims = 2 ^ l * r }
-
--- those of a control cage
+-- the counts of a control cage after l levels
 abbrev pub cageCounts : ℕ → ℕ → List ℕ → Counts
 cageCounts l v fs = countsAfter l (sizes (cage v fs)) (rims (links fs))
-
-abbrev pub overOf : Counts → Option Refusal
-overOf c = check 13 (when (ltb mostInMesh (c .faces) || ltb mostInMesh (c .vertices)))
 
 -- what is left of the table from a check on, with the list sh of sharp sides: from 18, from 9, from 8, from 7, from 5
 abbrev pub fromMarks : ℕ → ℕ → List ℕ → List ℕ → Option Refusal

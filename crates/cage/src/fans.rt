@@ -9,13 +9,13 @@ ghost use Rattle.turns.specs.Turns.{mostValence};
 ghost use Rattle.rules.specs.Mesh.{links, fan, lastCorner};
 ghost use Rattle.rules.specs.Refusals.{check, fanRefusal};
 ghost use Rattle.faces.specs.Rings.{turnOf, valenceOf};
-ghost use Rattle.cage.specs.Verdicts.{verdictOf};
+ghost use Rattle.limits.specs.Verdicts.{verdictOf};
 ghost use Rattle.cage.specs.Chains.{Faces, Below, Heads};
 ghost use Rattle.cage.specs.Fans.{Tallied, Tables, Used, shortOf, turnRefusal};
-use super::Check;
-use super::no;
 use super::sides::side_of;
 use faces::Turn;
+use limits::Check;
+use limits::no;
 use turns::MOST_VALENCE;
 
 // How many corners each vertex has.

@@ -1,5 +1,5 @@
-// docs/RULES.md, Answers: checks 1 to 13 in the order of its table, the lowest place first. No lent buffer is written here: what a check needs to
-// remember stands in local arrays.
+// docs/RULES.md, Answers: checks 1 to 13 in the order of its table, the lowest place first; 1 to 6 and 13 are of crate `limits`. No lent buffer is written
+// here: what a check needs to remember stands in local arrays.
 ghost use mathlib.Core.Path.{_≡_};
 ghost use Prim.Native.Nat.{_+_, _≤_};
 ghost use mathlib.Core.List.{map};
@@ -8,95 +8,21 @@ ghost use lib.Seq.{sets};
 ghost use Rattle.rules.specs.Mesh.{links, cage};
 ghost use Rattle.rules.specs.Position.{whole, single};
 ghost use Rattle.rules.specs.Levels.{last};
-ghost use Rattle.rules.specs.Refusals.{shapeRefusal, rangeRefusal, sizeRefusal, refusal};
+ghost use Rattle.rules.specs.Refusals.{sizeRefusal, refusal};
 ghost use Rattle.rules.specs.Sharp.{sharpRefusal, sharpLast};
 ghost use Rattle.rules.specs.Answers.{counted, unless};
 ghost use Rattle.faces.specs.Words.{coded};
-ghost use Rattle.cage.specs.Verdicts.{verdictOf};
 ghost use Rattle.cage.specs.Chains.{Faces, Below, Apart, Once, Heads, Chained};
 ghost use Rattle.cage.specs.Fans.{Tables};
 ghost use Rattle.cage.specs.Sizes.{judged, fromMarks, fromNine, fromEight, fromSeven, fromFive, Listed};
+use limits::Check;
 use rules::Outcome;
-use rules::Refusal;
 
 pub mod boundary;
 pub mod fans;
 pub mod list;
 pub mod marks;
 pub mod sides;
-pub mod size;
-
-pub enum Check {
-    Pass,
-    No(Refusal),
-}
-
-pub fn no(number: u32, place: u32) -> Check
-    ensures { λ r. ⌜ r ≡ Check.No (record { number = number; place = place }) ⌝ }
-{
-    Check::No(Refusal {
-        number: number,
-        place: place,
-    })
-}
-
-// 1, 2, 3: the levels and the lengths of the two lists.
-pub fn shape(levels: u32, indices: usize, coords: usize) -> Check
-    ensures { λ r. ⌜ r ≡ verdictOf (shapeRefusal levels indices coords) ⌝ }
-{
-    if levels > 7 {
-        return no(1, 0);
-    }
-    if indices % 3 != 0 {
-        return no(2, 0);
-    }
-    if coords % 3 != 0 {
-        return no(2, 1);
-    }
-    if indices / 3 > 4096 {
-        return no(3, 0);
-    }
-    if coords / 3 > 4096 {
-        return no(3, 1);
-    }
-    Check::Pass
-}
-
-// 4
-pub fn whole_range(coords: &[i32]) -> Check
-    requires { ⌜ length (now coords) ≤ 12288 ⌝ }
-    ensures { λ r. ⌜ r ≡ verdictOf (rangeRefusal whole (now (coords .entry))) ⌝ }
-{
-    let mut i = 0;
-    while i < coords.len() {
-        if !whole::in_range(coords[i]) {
-            return no(4, i as u32);
-        }
-        i = i + 1;
-    }
-    Check::Pass
-}
-
-// Size at most 2^40: a NaN compares with nothing.
-fn allowed(x: f32) -> bool
-    ensures { λ r. ⌜ r ≡ single .allowed x ⌝ }
-{
-    x <= 1099511627776.0 && -1099511627776.0 <= x
-}
-
-pub fn single_range(coords: &[f32]) -> Check
-    requires { ⌜ length (now coords) ≤ 12288 ⌝ }
-    ensures { λ r. ⌜ r ≡ verdictOf (rangeRefusal single (now (coords .entry))) ⌝ }
-{
-    let mut i = 0;
-    while i < coords.len() {
-        if !allowed(coords[i]) {
-            return no(4, i as u32);
-        }
-        i = i + 1;
-    }
-    Check::Pass
-}
 
 // The link words of a control cage, and after them the start corners of its v vertices.
 pub fn link_words(indices: &[u32], v: usize, words: &mut [u32], at: usize)
@@ -119,9 +45,9 @@ fn judge_size(levels: u32, indices: &[u32], words: &[u32], v: usize) -> Outcome
 {
     let n = indices.len();
     let f = (n / 3) as u32;
-    let r = size::count_rims(words, n);
-    let c = size::grown(levels, v as u32, f, (3 * f + r) / 2, r);
-    match size::size(c) {
+    let r = limits::size::count_rims(words, n);
+    let c = limits::size::grown(levels, v as u32, f, (3 * f + r) / 2, r);
+    match limits::size::size(c) {
         Check::No(x) => Outcome::Refused(x),
         Check::Pass => Outcome::Success(c),
     }
@@ -198,9 +124,9 @@ fn judge_faces(levels: u32, indices: &[u32], v: usize, sharp: &[u32]) -> Outcome
     requires { ⌜ (levels ≤ 7) × (v ≤ 4096) × Faces (now indices) ⌝ }
     ensures { λ r. ⌜ r ≡ judged (fromFive levels v (now (sharp .entry)) (now (indices .entry))) levels v (now (indices .entry)) ⌝ }
 {
-    match list::beyond(indices, v as u32) {
+    match limits::list::beyond(indices, v as u32) {
         Check::No(x) => Outcome::Refused(x),
-        Check::Pass => match list::flat(indices) {
+        Check::Pass => match limits::list::flat(indices) {
             Check::No(x) => Outcome::Refused(x),
             Check::Pass => judge_sides(levels, indices, v, sharp),
         },
@@ -211,9 +137,9 @@ fn judge_faces(levels: u32, indices: &[u32], v: usize, sharp: &[u32]) -> Outcome
 pub fn judge_whole(levels: u32, indices: &[u32], coords: &[i32]) -> Outcome
     ensures { λ r. ⌜ r ≡ unless (refusal whole levels (now (indices .entry)) (now (coords .entry))) (Outcome.Success (counted (last whole levels (now (indices .entry)) (now (coords .entry)) .mesh))) ⌝ }
 {
-    match shape(levels, indices.len(), coords.len()) {
+    match limits::shape(levels, indices.len(), coords.len()) {
         Check::No(x) => Outcome::Refused(x),
-        Check::Pass => match whole_range(coords) {
+        Check::Pass => match limits::whole_range(coords) {
             Check::No(x) => Outcome::Refused(x),
             Check::Pass => judge_faces(levels, indices, coords.len() / 3, &indices[..0]),
         },
@@ -224,9 +150,9 @@ pub fn judge_whole(levels: u32, indices: &[u32], coords: &[i32]) -> Outcome
 pub fn judge_sharp(levels: u32, indices: &[u32], coords: &[i32], sharp: &[u32]) -> Outcome
     ensures { λ r. ⌜ r ≡ unless (sharpRefusal whole levels (now (sharp .entry)) (now (indices .entry)) (now (coords .entry))) (Outcome.Success (counted (sharpLast whole levels (now (sharp .entry)) (now (indices .entry)) (now (coords .entry)) .mesh))) ⌝ }
 {
-    match shape(levels, indices.len(), coords.len()) {
+    match limits::shape(levels, indices.len(), coords.len()) {
         Check::No(x) => Outcome::Refused(x),
-        Check::Pass => match whole_range(coords) {
+        Check::Pass => match limits::whole_range(coords) {
             Check::No(x) => Outcome::Refused(x),
             Check::Pass => judge_faces(levels, indices, coords.len() / 3, sharp),
         },
@@ -236,9 +162,9 @@ pub fn judge_sharp(levels: u32, indices: &[u32], coords: &[i32], sharp: &[u32]) 
 pub fn judge_single(levels: u32, indices: &[u32], coords: &[f32]) -> Outcome
     ensures { λ r. ⌜ r ≡ unless (refusal single levels (now (indices .entry)) (now (coords .entry))) (Outcome.Success (counted (last single levels (now (indices .entry)) (now (coords .entry)) .mesh))) ⌝ }
 {
-    match shape(levels, indices.len(), coords.len()) {
+    match limits::shape(levels, indices.len(), coords.len()) {
         Check::No(x) => Outcome::Refused(x),
-        Check::Pass => match single_range(coords) {
+        Check::Pass => match limits::single_range(coords) {
             Check::No(x) => Outcome::Refused(x),
             Check::Pass => judge_faces(levels, indices, coords.len() / 3, &indices[..0]),
         },

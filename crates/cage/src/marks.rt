@@ -5,10 +5,10 @@ ghost use Rattle.lists.specs.Lists.{find};
 ghost use Rattle.rules.specs.Mesh.{links};
 ghost use Rattle.rules.specs.Sharp.{unlinked, told};
 ghost use Rattle.rules.specs.Refusals.{check};
-ghost use Rattle.cage.specs.Verdicts.{verdictOf};
+ghost use Rattle.limits.specs.Verdicts.{verdictOf};
 ghost use Rattle.cage.specs.Fans.{Linked};
-use super::Check;
-use super::no;
+use limits::Check;
+use limits::no;
 
 // A place has 32 bits and the list has no limit: an index past the largest is told as the largest.
 pub fn place(i: usize) -> u32

@@ -15,8 +15,8 @@ use Rattle.rules.specs.Position.{whole}
 use Rattle.rules.specs.Refusals.{shapeRefusal}
 use Rattle.rules.specs.Sheets.{wordAt, signed}
 use Rattle.rules.specs.declared.Refusal.{Refusal}
-use Rattle.cage.specs.Verdicts.{verdictOf}
-use Rattle.cage.specs.declared.Check.the-variants.{No}
+use Rattle.limits.specs.Verdicts.{verdictOf}
+use Rattle.limits.specs.declared.Check.the-variants.{No}
 use Rattle.writer.specs.Writing.{writtenOf, writtenAnswer}
 use Rattle.writer.specs.declared.Written.the-variants as written
 use Rattle.writer.proofs.Stage.{stage-no}

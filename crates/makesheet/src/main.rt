@@ -6,10 +6,10 @@ ghost use Rattle.rules.specs.Sheets.{wordsOf, coordsOf};
 ghost use Rattle.rules.specs.Calls.{given, lent};
 ghost use Rattle.writer.specs.Writing.{WriteCall};
 ghost use Rattle.makesheet.specs.Lists.{refusedBy, MakeCall};
-use cage::Check;
 use libc::STDERR_FILENO;
 use libc::STDIN_FILENO;
 use libc::STDOUT_FILENO;
+use limits::Check;
 use rules::Refusal;
 use writer::Written;
 
@@ -52,7 +52,7 @@ fn made(bytes: &[u8], out: &mut [u8]) -> Written
     if n != 12 + 4 * nc + 4 * ni {
         return refused(15);
     }
-    match cage::shape(levels, ni, nc) {
+    match limits::shape(levels, ni, nc) {
         Check::No(x) => Written::Refused(x),
         Check::Pass => lists(bytes, nc, ni, levels, out),
     }

@@ -19,10 +19,10 @@ use Rattle.rules.specs.Refusals.{check, same, usedBefore}
 use Rattle.rules.proofs.Checks.{check-none}
 use Rattle.rules.proofs.Sides.{length-sides, getD-sides, length-links}
 use Rattle.faces.specs.Words.{coded}
-use Rattle.cage.specs.Verdicts.{verdictOf}
-use Rattle.cage.specs.declared.Check.the-variants.{Pass}
+use Rattle.limits.specs.Verdicts.{verdictOf}
+use Rattle.limits.specs.declared.Check.the-variants.{Pass}
 use Rattle.cage.specs.Chains.{Faces, Apart}
-use Rattle.cage.proofs.Search.{passed, failed, passes}
+use Rattle.limits.proofs.Search.{passed, failed, passes}
 use Rattle.cage.proofs.Rounds.{last-append}
 use Rattle.cage.proofs.SharpList.{zero-word}
 use Rattle.looks.specs.Looked.{Seen}

@@ -8,16 +8,16 @@ ghost use Rattle.lists.specs.Lists.{find, lowest, found, tally};
 ghost use Rattle.rules.specs.Mesh.{links, fan, lastCorner};
 ghost use Rattle.rules.specs.Refusals.{check, fanRefusal};
 ghost use Rattle.faces.specs.Rings.{turnOf};
-ghost use Rattle.cage.specs.Verdicts.{verdictOf};
+ghost use Rattle.limits.specs.Verdicts.{verdictOf};
 ghost use Rattle.cage.specs.Chains.{Faces, Apart};
 ghost use Rattle.cage.specs.Fans.{turnRefusal};
 ghost use Rattle.scans.specs.Starts.{Started};
-use cage::Check;
 use cage::fans::first;
 use cage::fans::short;
 use cage::fans::wide;
-use cage::no;
 use faces::Turn;
+use limits::Check;
+use limits::no;
 use looks::rings::turn_round;
 
 // Whether a corner is vertex u.

@@ -1,5 +1,5 @@
 // Checks 7 to 13 and 18 as a tester would make them on paper: each looks through the face list anew, with no chain, no link word and no table. Checks 1 to 6 use none either and
-// are those of crate `cage`.
+// are those of crate `limits`.
 ghost use mathlib.Core.Path.{_≡_};
 ghost use mathlib.Core.List.{map};
 ghost use Prim.Native.Nat.{_+_, _≤_};
@@ -13,7 +13,7 @@ ghost use Rattle.rules.specs.Sharp.{sharpRefusal, sharpLast};
 ghost use Rattle.rules.specs.Answers.{counted, unless};
 ghost use Rattle.cage.specs.Chains.{Faces, Below, Apart, Once};
 ghost use Rattle.cage.specs.Sizes.{judged, fromMarks, fromNine, fromEight, fromSeven, fromFive, Listed};
-use cage::Check;
+use limits::Check;
 use rules::Outcome;
 
 mod fans;
@@ -40,8 +40,8 @@ fn judge_size(levels: u32, indices: &[u32], v: usize) -> Outcome
 {
     let f = (indices.len() / 3) as u32;
     let r = rims::count_rims(indices);
-    let c = cage::size::grown(levels, v as u32, f, (3 * f + r) / 2, r);
-    match cage::size::size(c) {
+    let c = limits::size::grown(levels, v as u32, f, (3 * f + r) / 2, r);
+    match limits::size::size(c) {
         Check::No(x) => Outcome::Refused(x),
         Check::Pass => Outcome::Success(c),
     }
@@ -94,9 +94,9 @@ fn judge_faces(levels: u32, indices: &[u32], v: usize, sharp: &[u32]) -> Outcome
     requires { ⌜ (levels ≤ 7) × (v ≤ 4096) × Faces (now indices) ⌝ }
     ensures { λ r. ⌜ r ≡ judged (fromFive levels v (now (sharp .entry)) (now (indices .entry))) levels v (now (indices .entry)) ⌝ }
 {
-    match cage::list::beyond(indices, v as u32) {
+    match limits::list::beyond(indices, v as u32) {
         Check::No(x) => Outcome::Refused(x),
-        Check::Pass => match cage::list::flat(indices) {
+        Check::Pass => match limits::list::flat(indices) {
             Check::No(x) => Outcome::Refused(x),
             Check::Pass => judge_sides(levels, indices, v, sharp),
         },
@@ -107,9 +107,9 @@ fn judge_faces(levels: u32, indices: &[u32], v: usize, sharp: &[u32]) -> Outcome
 pub fn judge(levels: u32, indices: &[u32], coords: &[i32], sharp: &[u32]) -> Outcome
     ensures { λ r. ⌜ r ≡ unless (sharpRefusal whole levels (now (sharp .entry)) (now (indices .entry)) (now (coords .entry))) (Outcome.Success (counted (sharpLast whole levels (now (sharp .entry)) (now (indices .entry)) (now (coords .entry)) .mesh))) ⌝ }
 {
-    match cage::shape(levels, indices.len(), coords.len()) {
+    match limits::shape(levels, indices.len(), coords.len()) {
         Check::No(x) => Outcome::Refused(x),
-        Check::Pass => match cage::whole_range(coords) {
+        Check::Pass => match limits::whole_range(coords) {
             Check::No(x) => Outcome::Refused(x),
             Check::Pass => judge_faces(levels, indices, coords.len() / 3, sharp),
         },

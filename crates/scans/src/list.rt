@@ -5,11 +5,11 @@ ghost use lib.ListN.{length};
 ghost use Rattle.lists.specs.Lists.{lowest, found};
 ghost use Rattle.rules.specs.Mesh.{side, sides};
 ghost use Rattle.rules.specs.Refusals.{check, same, usedBefore, has as hasOf, sameSet};
-ghost use Rattle.cage.specs.Verdicts.{verdictOf};
+ghost use Rattle.limits.specs.Verdicts.{verdictOf};
 ghost use Rattle.cage.specs.Chains.{Faces};
-use cage::Check;
-use cage::no;
 use faces::onward;
+use limits::Check;
+use limits::no;
 
 // Whether side t runs from a to b.
 fn runs(indices: &[u32], a: u32, b: u32, t: usize) -> bool

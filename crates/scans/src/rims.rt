@@ -8,11 +8,11 @@ ghost use Rattle.lists.specs.Lists.{find, found};
 ghost use Rattle.rules.specs.Mesh.{links, rims};
 ghost use Rattle.rules.specs.Sharp.{unlinked, told};
 ghost use Rattle.rules.specs.Refusals.{check};
-ghost use Rattle.cage.specs.Verdicts.{verdictOf};
+ghost use Rattle.limits.specs.Verdicts.{verdictOf};
 ghost use Rattle.cage.specs.Chains.{Faces};
-use cage::Check;
 use cage::marks::place;
-use cage::no;
+use limits::Check;
+use limits::no;
 use looks::across;
 
 // Whether no side lies across side s.

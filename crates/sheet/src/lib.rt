@@ -8,7 +8,7 @@ ghost use Rattle.rules.specs.Sheets.{wordAt, wordsOf, coordsOf, vertexBlock, fa
 ghost use Rattle.rules.specs.Sheets.{signed as signedOf};
 ghost use Rattle.sheet.specs.Reading.{sheetOf, vertexBytes, faceBytes};
 ghost use Rattle.rules.specs.Calls.{given, buffers, WholeCall, SheetCall};
-use cage::Check;
+use limits::Check;
 use rules::Outcome;
 use rules::Refusal;
 
@@ -241,7 +241,7 @@ pub fn subdivide_by(
         } => {
             let nv = vertices as usize;
             let nf = faces as usize;
-            match cage::shape(levels, 3 * nf, 3 * nv) {
+            match limits::shape(levels, 3 * nf, 3 * nv) {
                 Check::No(r) => Outcome::Refused(r),
                 Check::Pass => subdivide_lists(
                     engine,

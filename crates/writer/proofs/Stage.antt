@@ -14,9 +14,9 @@ use Rattle.rules.proofs.Checks.{Shape, shape-of}
 use Rattle.rules.specs.Answers.{unless}
 use Rattle.rules.specs.declared.Counts.{Counts}
 use Rattle.rules.specs.declared.Outcome.the-variants.{Success, Refused}
-use Rattle.cage.specs.Verdicts.{verdictOf}
-use Rattle.cage.specs.declared.Check.the-variants.{Pass, No}
-use Rattle.cage.proofs.Search.{passes}
+use Rattle.limits.specs.Verdicts.{verdictOf}
+use Rattle.limits.specs.declared.Check.the-variants.{Pass, No}
+use Rattle.limits.proofs.Search.{passes}
 
 or-nothing : (a : Option Refusal) → (a orElse none) ≡ a
 or-nothing none = refl

@@ -13,8 +13,8 @@ use Rattle.rules.specs.Refusals.{check, when, _orElse_, shapeRefusal, rangeRefu
 use Rattle.rules.specs.Sheets.{sheetBytes}
 use Rattle.rules.specs.declared.Refusal.{Refusal}
 use Rattle.rules.proofs.Checks.{Shape, shape-of, or-none}
-use Rattle.cage.specs.Verdicts.{verdictOf}
-use Rattle.cage.specs.declared.Check.the-variants.{No}
+use Rattle.limits.specs.Verdicts.{verdictOf}
+use Rattle.limits.specs.declared.Check.the-variants.{No}
 use Rattle.writer.specs.Writing.{writeRefusal, writtenOr, writtenOf}
 use Rattle.writer.specs.declared.Written.the-variants as written
 use Rattle.writer.proofs.Puts.{sheet-long}

@@ -9,10 +9,10 @@ ghost use Rattle.rules.specs.Position.{whole};
 ghost use Rattle.rules.specs.Refusals.{meshRefusal};
 ghost use Rattle.rules.specs.Sheets.{bytesOf, sheetBytes};
 ghost use Rattle.rules.specs.Sheets.{unsigned as unsignedOf};
-ghost use Rattle.cage.specs.Verdicts.{verdictOf};
+ghost use Rattle.limits.specs.Verdicts.{verdictOf};
 ghost use Rattle.rules.specs.Calls.{given, lent};
 ghost use Rattle.writer.specs.Writing.{WriteCall};
-use cage::Check;
+use limits::Check;
 use rules::Outcome;
 use rules::Refusal;
 
@@ -26,7 +26,7 @@ pub enum Written {
 fn checked_whole(levels: u32, indices: &[u32], coords: &[i32]) -> Check
     ensures { λ r. ⌜ r ≡ verdictOf (meshRefusal whole levels (now (indices .entry)) (now (coords .entry))) ⌝ }
 {
-    match cage::shape(levels, indices.len(), coords.len()) {
+    match limits::shape(levels, indices.len(), coords.len()) {
         Check::No(x) => Check::No(x),
         Check::Pass => match cage::judge_whole(0, indices, coords) {
             Outcome::Refused(x) => Check::No(x),

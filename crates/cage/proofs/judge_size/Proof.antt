@@ -8,8 +8,9 @@ use Rattle.rules.specs.Levels.{Sizes}
 use Rattle.rules.specs.Refusals.{sizeRefusal}
 use Rattle.rules.specs.declared.Counts.{Counts}
 use Rattle.rules.specs.declared.Outcome.the-variants.{Success}
-use Rattle.cage.specs.Verdicts.{verdictOf}
-use Rattle.cage.specs.Sizes.{countsAfter, cageCounts, overOf}
+use Rattle.limits.specs.Verdicts.{verdictOf}
+use Rattle.limits.specs.Sizes.{countsAfter, overOf}
+use Rattle.cage.specs.Sizes.{cageCounts}
 use Rattle.cage.proofs.Rounds.{links-all, rims-few}
 use Rattle.cage.proofs.Sizes.{sizes-are, size-is}
 use Rattle.cage.proofs.Stages.{good-of, unless-refused, unless-last}

@@ -1,4 +1,4 @@
-use Rattle.cage.specs.Verdicts.{verdictOf}
+use Rattle.limits.specs.Verdicts.{verdictOf}
 use denote.Ref.{now}
 use Prim.Native.Nat.{_+_, _*_}
 use mathlib.Core.Path.{_≡_, refl, sym, _∙_}
@@ -7,7 +7,7 @@ use lib.ListN.{length}
 use Rattle.rules.specs.Refusals.{shapeRefusal}
 use Rattle.rules.specs.Sheets.{wordAt}
 use Rattle.rules.proofs.Checks.{shape-of}
-use Rattle.cage.proofs.Search.{passes}
+use Rattle.limits.proofs.Search.{passes}
 use Rattle.writer.proofs.Writes.{few}
 use Rattle.makesheet.proofs.Laws.{over, no-head, not-so-long, by-lists, by-shape}
 use borrow.Author.Needs.{needs}

@@ -7,8 +7,8 @@ use Rattle.rules.specs.Refusals.{_orElse_, shapeRefusal, rangeRefusal}
 use Rattle.rules.specs.Sharp.{sharpRefusal}
 use Rattle.rules.proofs.Checks.{Shape, shape-of}
 use Rattle.cage.specs.Sizes.{fromFive}
-use Rattle.cage.specs.declared.Check.the-variants.{Pass}
-use Rattle.cage.proofs.Search.{passes}
+use Rattle.limits.specs.declared.Check.the-variants.{Pass}
+use Rattle.limits.proofs.Search.{passes}
 use Rattle.cage.proofs.SharpList.{sharp-ahead}
 use Rattle.cage.proofs.Stages.{faces-of, coords-few, unless-no, unless-goes}
 use borrow.Author.Needs.{needs}

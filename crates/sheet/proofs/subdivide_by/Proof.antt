@@ -7,11 +7,11 @@ use lib.ListN.{length}
 use Rattle.rules.specs.Answers.{wholeRooms}
 use Rattle.rules.specs.declared.Refusal.{Refusal}
 use Rattle.rules.proofs.Checks.{shape-of}
-use Rattle.cage.specs.Verdicts.{verdictOf}
-use Rattle.cage.proofs.Search.{passes}
+use Rattle.limits.specs.Verdicts.{verdictOf}
+use Rattle.limits.proofs.Search.{passes}
 use Rattle.sheet.specs.Reading.{sheetOf}
 use Rattle.sheet.specs.declared.Sheet.the-variants.{Is}
-use Rattle.cage.specs.declared.Check.the-variants.{Pass, No}
+use Rattle.limits.specs.declared.Check.the-variants.{Pass, No}
 use Rattle.sheet.proofs.Calls.{read, refused-15, refused-shape}
 use borrow.Author.Needs.{needs}
 use Rattle.sheet.proofs.subdivide_by.Statement.{statement}

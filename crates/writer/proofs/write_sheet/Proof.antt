@@ -7,7 +7,7 @@ use lib.ListN.{length}
 use borrow.Author.Needs.{needs}
 use Rattle.rules.specs.Position.{whole}
 use Rattle.rules.specs.Refusals.{meshRefusal}
-use Rattle.cage.proofs.Search.{passes}
+use Rattle.limits.proofs.Search.{passes}
 use Rattle.writer.proofs.Writes.{passed, few, write-no, write-17, write-done}
 use Rattle.writer.proofs.write_sheet.Statement.{statement}
 use Rattle.writer.proofs.write_sheet.Tie as tie

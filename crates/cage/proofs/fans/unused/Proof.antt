@@ -9,7 +9,7 @@ use lib.ListN.{getD}
 use lib.Dec.{eqb}
 use borrow.Author.Tests.{eq-eqb, ne-eqb}
 use Rattle.lists.specs.Lists.{find, found}
-use Rattle.cage.proofs.Search.{lowest-here, lowest-nowhere}
+use Rattle.limits.proofs.Search.{lowest-here, lowest-nowhere}
 use Rattle.cage.proofs.Rounds.{unused-is}
 use Rattle.cage.proofs.fans.unused.Statement.{statement}
 use Rattle.cage.proofs.fans.unused.Tie as tie

@@ -12,7 +12,7 @@ use Rattle.rules.specs.Mesh.{links}
 use Rattle.rules.specs.Refusals.{sameSet}
 use Rattle.faces.specs.Words.{linkOf}
 use Rattle.cage.specs.Chains.{foldsBack}
-use Rattle.cage.proofs.Search.{lowest-here, lowest-nowhere}
+use Rattle.limits.proofs.Search.{lowest-here, lowest-nowhere}
 use Rattle.cage.proofs.Across.{link-coded, word-at, word-le, folds-is}
 use Rattle.cage.proofs.list.doubled.Statement.{statement}
 use Rattle.cage.proofs.list.doubled.Tie as tie

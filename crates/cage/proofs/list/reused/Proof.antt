@@ -11,7 +11,7 @@ use lib.Dec.{ltb}
 use Rattle.rules.specs.Mesh.{onward, corner, sides}
 use Rattle.rules.specs.Refusals.{usedBefore}
 use Rattle.cage.specs.Chains.{lastBelow, leaves, runs}
-use Rattle.cage.proofs.Search.{lowest-here, lowest-nowhere}
+use Rattle.limits.proofs.Search.{lowest-here, lowest-nowhere}
 use Rattle.cage.proofs.Chains.{last-le, runs-from, used-is}
 use Rattle.cage.proofs.list.reused.Statement.{statement}
 use Rattle.cage.proofs.list.reused.Tie as tie

@@ -5,7 +5,7 @@ use mathlib.Core.Path.{_≡_, refl, sym, ap, _∙_, subst}
 use lib.ListN.{length}
 use Rattle.lists.specs.Lists.{count, tally}
 use Rattle.lists.proofs.Places.{tally-next}
-use Rattle.cage.proofs.Sizes.{bit-le}
+use Rattle.limits.proofs.Sizes.{bit-le}
 use Rattle.rules.specs.Mesh.{links}
 use Rattle.outlines.specs.Loops.{begins}
 use Rattle.outlines.specs.Pieces.{Marked}

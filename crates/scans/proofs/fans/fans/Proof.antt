@@ -5,7 +5,7 @@ use lib.Dec.{eqb}
 use Rattle.lists.specs.Lists.{find, lowest, found}
 use Rattle.rules.specs.Refusals.{check, fanRefusal}
 use Rattle.cage.specs.Fans.{turnRefusal}
-use Rattle.cage.proofs.Search.{or-stops, or-goes}
+use Rattle.limits.proofs.Search.{or-stops, or-goes}
 use Rattle.scans.proofs.Scans.{started-of}
 use borrow.Author.Needs.{needs}
 use Rattle.scans.proofs.fans.fans.Statement.{statement}

@@ -2,7 +2,7 @@ use denote.Ref.{now}
 use borrow.Author.Count.{below-more}
 use native.Mathlib.Omega.{arith}
 use mathlib.Core.Path.{_≡_, sym, ap, _∙_}
-use Rattle.cage.proofs.Search.{lowest-here, lowest-nowhere}
+use Rattle.limits.proofs.Search.{lowest-here, lowest-nowhere}
 use mathlib.Core.Bool.{false, not}
 use Prim.Native.Nat.{ℕ, _-_, _≤_, _<_}
 use lib.Dec.{eqb}

@@ -3,7 +3,7 @@ use borrow.Author.Count.{below-more}
 use native.Mathlib.Omega.{arith}
 use mathlib.Core.Path.{_≡_, sym, _∙_}
 use mathlib.Core.Bool.{false}
-use Rattle.cage.proofs.Search.{lowest-here, lowest-nowhere}
+use Rattle.limits.proofs.Search.{lowest-here, lowest-nowhere}
 use Prim.Native.Nat.{ℕ, _-_, _*_, _/_, _≤_, _<_}
 use lib.ListN.{length}
 use Rattle.rules.specs.Mesh.{sides}

@@ -1,7 +1,7 @@
 use borrow.Author.Tests.{eq-eqb, ne-eqb}
 use borrow.Author.Needs.{needs}
-use Rattle.cage.proofs.list.equal_corners.Statement.{statement}
-use Rattle.cage.proofs.list.equal_corners.Tie as tie
+use Rattle.limits.proofs.list.equal_corners.Statement.{statement}
+use Rattle.limits.proofs.list.equal_corners.Tie as tie
 
 mul-a : tie.Need-mul-a
 mul-a c = search needs

@@ -6,10 +6,10 @@ use Prim.Native.Nat.{ℕ, _/_, _-_, _≤_, _<_}
 use mathlib.Core.Path.{_≡_, sym, _∙_}
 use mathlib.Core.Bool.{false}
 use lib.ListN.{length}
-use Rattle.cage.proofs.Search.{lowest-here, lowest-nowhere}
+use Rattle.limits.proofs.Search.{lowest-here, lowest-nowhere}
 use Rattle.rules.specs.Refusals.{equalCorners}
-use Rattle.cage.proofs.list.flat.Statement.{statement}
-use Rattle.cage.proofs.list.flat.Tie as tie
+use Rattle.limits.proofs.list.flat.Statement.{statement}
+use Rattle.limits.proofs.list.flat.Tie as tie
 
 abbrev Inv-loop : tie.InvT-loop
 Inv-loop indices f₀ f = (f ≤ length indices / 3) × ((j : ℕ) → j < f → equalCorners indices j ≡ false)

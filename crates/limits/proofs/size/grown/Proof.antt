@@ -4,9 +4,9 @@ use mathlib.Core.Path.{_≡_, sym, ap, ap₂, _∙_}
 use native.Mathlib.Numerals.{add-one}
 use Rattle.rules.specs.Levels.{Sizes, after}
 use Rattle.rules.specs.declared.Counts.{Counts}
-use Rattle.cage.proofs.Sizes.{few-faces, after-more, rims-more}
-use Rattle.cage.proofs.size.grown.Statement.{statement}
-use Rattle.cage.proofs.size.grown.Tie as tie
+use Rattle.limits.proofs.Sizes.{few-faces, after-more, rims-more}
+use Rattle.limits.proofs.size.grown.Statement.{statement}
+use Rattle.limits.proofs.size.grown.Tie as tie
 
 abbrev Inv-loop : tie.InvT-loop
 Inv-loop levels v f e r verts₀ faces₀ edges₀ rims₀ i₀ verts faces edges rims i =

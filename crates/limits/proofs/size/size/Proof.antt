@@ -1,7 +1,7 @@
 use borrow.Author.Tests.{lt-ltb, le-ltb}
 use borrow.Author.Needs.{needs}
-use Rattle.cage.proofs.size.size.Statement.{statement}
-use Rattle.cage.proofs.size.size.Tie as tie
+use Rattle.limits.proofs.size.size.Statement.{statement}
+use Rattle.limits.proofs.size.size.Tie as tie
 
 no-requires : tie.Need-no-requires
 no-requires c κs = search needs

@@ -1,8 +1,8 @@
 -- What a stage of the checks answers.
 use mathlib.Core.Option.{Option, none, some}
 use Rattle.rules.specs.declared.Refusal.{Refusal}
-use Rattle.cage.specs.declared.Check.{Check}
-use Rattle.cage.specs.declared.Check.the-variants.{Pass, No}
+use Rattle.limits.specs.declared.Check.{Check}
+use Rattle.limits.specs.declared.Check.the-variants.{Pass, No}
 
 abbrev pub verdictOf : Option Refusal → Check
 verdictOf none = Pass

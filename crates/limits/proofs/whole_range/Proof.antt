@@ -11,11 +11,11 @@ use Prim.Native.Nat.{ℕ, _-_, _≤_, _<_}
 use mathlib.Core.Path.{_≡_, sym, ap, _∙_}
 use mathlib.Core.Bool.{true}
 use lib.ListN.{length, getD}
-use Rattle.cage.proofs.Search.{find-here, find-nowhere}
+use Rattle.limits.proofs.Search.{find-here, find-nowhere}
 use lib.IntN.{pos}
 use Rattle.whole.specs.Whole.{inRange}
-use Rattle.cage.proofs.whole_range.Statement.{statement}
-use Rattle.cage.proofs.whole_range.Tie as tie
+use Rattle.limits.proofs.whole_range.Statement.{statement}
+use Rattle.limits.proofs.whole_range.Tie as tie
 
 abbrev Inv-loop : tie.InvT-loop
 Inv-loop coords i₀ i = (i ≤ length coords) × ((j : ℕ) → j < i → inRange (getD coords j (pos 0)) ≡ true)

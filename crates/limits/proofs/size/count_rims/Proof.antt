@@ -8,9 +8,9 @@ use lib.ListN.{getD}
 use Rattle.lists.specs.Lists.{found}
 use Rattle.rules.specs.Mesh.{rims}
 use Rattle.faces.specs.Words.{linkOf, linksIn}
-use Rattle.cage.proofs.Sizes.{rim-more, bit-le}
-use Rattle.cage.proofs.size.count_rims.Statement.{statement}
-use Rattle.cage.proofs.size.count_rims.Tie as tie
+use Rattle.limits.proofs.Sizes.{rim-more, bit-le}
+use Rattle.limits.proofs.size.count_rims.Statement.{statement}
+use Rattle.limits.proofs.size.count_rims.Tie as tie
 
 abbrev Inv-loop : tie.InvT-loop
 Inv-loop words n r₀ s₀ r s = (s ≤ n) × (r ≤ s) × (r ≡ rims (linksIn words 0 s))

@@ -7,10 +7,10 @@ use Prim.Native.Nat.{ℕ, _-_, _≤_, _<_}
 use mathlib.Core.Path.{_≡_, sym, _∙_}
 use mathlib.Core.Bool.{false}
 use lib.ListN.{length, getD}
-use Rattle.cage.proofs.Search.{find-here, find-nowhere}
+use Rattle.limits.proofs.Search.{find-here, find-nowhere}
 use lib.Dec.{leb}
-use Rattle.cage.proofs.list.beyond.Statement.{statement}
-use Rattle.cage.proofs.list.beyond.Tie as tie
+use Rattle.limits.proofs.list.beyond.Statement.{statement}
+use Rattle.limits.proofs.list.beyond.Tie as tie
 
 abbrev Inv-loop : tie.InvT-loop
 Inv-loop indices v i₀ i = (i ≤ length indices) × ((j : ℕ) → j < i → leb v (getD indices j 0) ≡ false)

@@ -2,9 +2,9 @@ use mathlib.Core.Bool.{true}
 use mathlib.Core.Path.{_≡_, refl}
 use lib.Ieee.{binary32, ofBits, ofInt, le}
 use Rattle.rules.specs.Position.{farthest}
-use Rattle.cage.proofs.Search.{and-left}
-use Rattle.cage.proofs.allowed.Statement.{statement}
-use Rattle.cage.proofs.allowed.Tie as tie
+use Rattle.limits.proofs.Search.{and-left}
+use Rattle.limits.proofs.allowed.Statement.{statement}
+use Rattle.limits.proofs.allowed.Tie as tie
 
 bound : ofBits binary32 1400897536 ≡ farthest
 unfolding ofBits ofInt

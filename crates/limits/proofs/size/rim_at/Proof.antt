@@ -2,8 +2,8 @@ use denote.Ref.{now}
 use lib.ListN.{getD}
 use Rattle.faces.proofs.Links.{link-word}
 use borrow.Author.Needs.{needs}
-use Rattle.cage.proofs.size.rim_at.Statement.{statement}
-use Rattle.cage.proofs.size.rim_at.Tie as tie
+use Rattle.limits.proofs.size.rim_at.Statement.{statement}
+use Rattle.limits.proofs.size.rim_at.Tie as tie
 
 mul-if1 : tie.Need-mul-if1
 mul-if1 c = search needs

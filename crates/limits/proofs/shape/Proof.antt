@@ -1,8 +1,8 @@
 use borrow.Author.Needs.{needs}
 use borrow.Author.Tests.{lt-ltb, le-ltb, eq-eqb, ne-eqb}
 use Rattle.rules.specs.Refusals.{shapeRefusal}
-use Rattle.cage.proofs.shape.Statement.{statement}
-use Rattle.cage.proofs.shape.Tie as tie
+use Rattle.limits.proofs.shape.Statement.{statement}
+use Rattle.limits.proofs.shape.Tie as tie
 
 no-requires : tie.Need-no-requires
 no-requires c κs = search needs
