@@ -1,5 +1,6 @@
 """The public calls of plates.h, on many cages at once: cases with the answers that they must get, tests/engine.c as a function from cases to answers, and what differs.
 Random cases: accepted cages, with sharp sides too, short buffers, damaged cages and lists, fresh cages for the oracle."""
+import os
 import struct
 import subprocess
 from collections import namedtuple
@@ -143,9 +144,11 @@ def library():
 
 
 def driver():
+    """The program over tests/engine.c. Several scripts may ask for it at a time: it is moved into place when it is whole."""
     program = ROOT / "target" / "engine"
-    subprocess.run([X86_64, "cc", "-O2", "-Wall", "-Wextra", "-Werror", "-o", program, "tests/engine.c", library()], cwd=ROOT, check=True)
-    return program
+    made = program.with_name(f"engine.{os.getpid()}")
+    subprocess.run([X86_64, "cc", "-O2", "-Wall", "-Wextra", "-Werror", "-o", made, "tests/engine.c", library()], cwd=ROOT, check=True)
+    return made.replace(program)
 
 
 def packed(c):
