@@ -12,7 +12,7 @@ ghost use Rattle.rules.specs.Refusals.{sizeRefusal, refusal};
 ghost use Rattle.rules.specs.Sharp.{sharpRefusal, sharpLast};
 ghost use Rattle.rules.specs.Answers.{counted, unless};
 ghost use Rattle.faces.specs.Words.{coded};
-ghost use Rattle.cage.specs.Chains.{Faces, Below, Apart, Once, Heads, Chained};
+ghost use Rattle.cage.specs.Chains.{Faces, Below, Apart, Once};
 ghost use Rattle.cage.specs.Fans.{Tables};
 ghost use Rattle.cage.specs.Sizes.{judged, fromMarks, fromNine, fromEight, fromSeven, fromFive, Listed};
 use limits::Check;
@@ -89,20 +89,18 @@ fn judge_links(
     levels: u32,
     indices: &[u32],
     heads: &[u16],
-    nexts: &[u16],
+    words: &[u32],
     v: usize,
     sharp: &[u32],
 ) -> Outcome
-    requires sizes { ⌜ (levels ≤ 7) × (v ≤ 4096) × (length (now heads) ≡ 4096) × Faces (now indices) ⌝ }
+    requires sizes { ⌜ (levels ≤ 7) × (v ≤ 4096) × (length (now heads) ≡ 4096) ⌝ }
     requires list { ⌜ Below v (now indices) × Apart (now indices) × Once (now indices) ⌝ }
-    requires chains { ⌜ Heads (now indices) (length (now indices)) (now heads) × Chained (now indices) (length (now indices)) (now nexts) ⌝ }
+    requires tables { ⌜ Tables (now indices) (now heads) (now words) ⌝ }
     ensures { λ r. ⌜ r ≡ judged (fromEight levels v (now (sharp .entry)) (now (indices .entry))) levels v (now (indices .entry)) ⌝ }
 {
-    let mut words = [0u32; 12288];
-    sides::put_links(indices, heads, nexts, &mut words, 0);
-    match list::doubled(indices, &words) {
+    match list::doubled(indices, words) {
         Check::No(x) => Outcome::Refused(x),
-        Check::Pass => judge_fans(levels, indices, heads, &words, v, sharp),
+        Check::Pass => judge_fans(levels, indices, heads, words, v, sharp),
     }
 }
 
@@ -112,10 +110,12 @@ fn judge_sides(levels: u32, indices: &[u32], v: usize, sharp: &[u32]) -> Outcome
 {
     let mut heads = [0u16; 4096];
     let mut nexts = [0u16; 12288];
+    let mut words = [0u32; 12288];
     sides::chain(indices, &mut heads, &mut nexts);
-    match list::reused(indices, &nexts) {
+    let low = sides::link(indices, &heads, &nexts, &mut words, 0);
+    match list::reused(indices, low) {
         Check::No(x) => Outcome::Refused(x),
-        Check::Pass => judge_links(levels, indices, &heads, &nexts, v, sharp),
+        Check::Pass => judge_links(levels, indices, &heads, &words, v, sharp),
     }
 }
 

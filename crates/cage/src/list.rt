@@ -8,25 +8,18 @@ ghost use Rattle.rules.specs.Mesh.{sides, links};
 ghost use Rattle.rules.specs.Refusals.{check, usedBefore, sameSet};
 ghost use Rattle.faces.specs.Words.{linkOf, coded};
 ghost use Rattle.limits.specs.Verdicts.{verdictOf};
-ghost use Rattle.cage.specs.Chains.{Faces, Apart, Once, Chained, foldsBack};
-use super::sides::end_of;
-use super::sides::seek;
+ghost use Rattle.cage.specs.Chains.{Faces, Apart, Once, foldsBack};
+ghost use Rattle.cage.specs.Fans.{placeOr};
 use limits::Check;
 use limits::no;
 
-// 7: an earlier side that leaves the same vertex ends where side s does.
-pub fn reused(indices: &[u32], nexts: &[u16]) -> Check
-    requires sizes { ⌜ Faces (now indices) ⌝ }
-    requires nexts { ⌜ Chained (now indices) (length (now indices)) (now nexts) ⌝ }
+// 7: an earlier side that leaves the same vertex ends where side s does. `low` is the lowest such side, or as many as there are sides.
+pub fn reused(indices: &[u32], low: u32) -> Check
+    requires { ⌜ Faces (now indices) × (low ≡ placeOr (length (now indices)) (lowest (usedBefore (sides (now indices))) (length (now indices)))) ⌝ }
     ensures { λ r. ⌜ r ≡ verdictOf (check 7 (lowest (usedBefore (sides (now (indices .entry)))) (3 * (length (now (indices .entry)) / 3)))) ⌝ }
 {
-    let mut s = 0;
-    while s < indices.len() {
-        let b = end_of(indices, s);
-        if seek(indices, nexts, nexts[s], b) > 0 {
-            return no(7, s as u32);
-        }
-        s = s + 1;
+    if (low as usize) < indices.len() {
+        return no(7, low);
     }
     Check::Pass
 }
