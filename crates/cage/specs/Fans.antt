@@ -12,8 +12,8 @@ use Rattle.rules.specs.Mesh.{links, valence}
 use Rattle.rules.specs.Refusals.{check, _orElse_, parted, fansOf}
 use Rattle.rules.specs.declared.Refusal.{Refusal}
 use Rattle.faces.specs.Words.{coded}
-use Rattle.faces.specs.declared.Turn.{Turn}
-use Rattle.faces.specs.declared.Turn.the-variants.{Inner, Rim, Endless}
+use Rattle.faces.specs.declared.walks.Turn.{Turn}
+use Rattle.faces.specs.declared.walks.Turn.the-variants.{Inner, Rim, Endless}
 use Rattle.cage.specs.Chains.{Faces, Heads}
 
 -- how many of the first n corners each vertex has

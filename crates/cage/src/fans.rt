@@ -13,7 +13,7 @@ ghost use Rattle.limits.specs.Verdicts.{verdictOf};
 ghost use Rattle.cage.specs.Chains.{Faces, Below, Heads};
 ghost use Rattle.cage.specs.Fans.{Tallied, Tables, Used, shortOf, turnRefusal};
 use super::sides::side_of;
-use faces::Turn;
+use faces::walks::Turn;
 use limits::Check;
 use limits::no;
 use turns::MOST_VALENCE;
@@ -55,7 +55,7 @@ fn turn_at(indices: &[u32], heads: &[u16], words: &[u32], u: usize) -> Turn
     ensures { λ r. ⌜ r ≡ turnOf (fan (links (now (indices .entry))) (lastCorner (now (indices .entry)) u)) ⌝ }
 {
     let s = side_of(heads[u]) as usize;
-    faces::turn_round(words, 0, indices.len() / 3, s)
+    faces::walks::turn_round(words, 0, indices.len() / 3, s)
 }
 
 pub fn short(t: Turn, n: u16) -> bool

@@ -34,7 +34,7 @@ fn folds_back(indices: &[u32], f: usize, link: u32) -> bool
     }
     let t = (link - 1) as usize;
     if t < 3 * f {
-        indices[faces::backward(t)] == indices[3 * f + 2]
+        indices[faces::sides::backward(t)] == indices[3 * f + 2]
     } else {
         false
     }

@@ -17,7 +17,7 @@ pub fn end_of(indices: &[u32], s: usize) -> u32
     requires { ⌜ Faces (now indices) × (s < length (now indices)) ⌝ }
     ensures { λ r. ⌜ r ≡ corner (now (indices .entry)) (onward s) ⌝ }
 {
-    indices[faces::onward(s)]
+    indices[faces::sides::onward(s)]
 }
 
 // Of the sides that leave a vertex, heads holds one past the last; of each side, nexts holds one past the one before it at its vertex. 0 is none.
@@ -99,7 +99,7 @@ fn put_coming(
     let mut h = head;
     while h > 0 {
         let s = (h - 1) as usize;
-        let t = faces::backward(s);
+        let t = faces::sides::backward(s);
         let a = indices[t] as usize;
         let m = fresh(indices, marks[a], u);
         words[at + t] = m as u32;

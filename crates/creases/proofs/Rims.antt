@@ -18,7 +18,7 @@ use Rattle.rules.proofs.Walks.{trail}
 use Rattle.rules.proofs.Both.{Both}
 use Rattle.faces.specs.Words.{linksIn}
 use Rattle.faces.specs.Rings.{Ringable, tripOf, downFrom}
-use Rattle.faces.specs.declared.Trip.the-variants as trip
+use Rattle.faces.specs.declared.walks.Trip.the-variants as trip
 use Rattle.faces.proofs.Trails.{next-trail}
 use Rattle.faces.proofs.Retrace.{came-by, off-last}
 use Rattle.faces.proofs.Passage.{passes, as-rim, again, begins, whole-fan, told}

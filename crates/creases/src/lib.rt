@@ -3,7 +3,7 @@
 pub mod points;
 pub mod rings;
 
-use faces::VertNo;
+use faces::sides::VertNo;
 use weights::Stage;
 use weights::micrometres::Whole3;
 use weights::micrometres::at;

@@ -1,9 +1,9 @@
 // The new positions of one level: `micrometres` of crate `levels`, with marks.
 use crate::creased;
 use crate::rings::sharp_ring;
-use faces::VertNo;
-use faces::backward;
-use faces::onward;
+use faces::sides::VertNo;
+use faces::sides::backward;
+use faces::sides::onward;
 use levels::first_met;
 use marks::mark;
 use turns::MOST_VALENCE;

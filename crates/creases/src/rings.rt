@@ -1,11 +1,11 @@
 // The ring of a vertex with the sharp edges in it: crate `faces`, with marks.
-use faces::Step;
-use faces::Trip;
-use faces::backward;
-use faces::next_corner;
-use faces::next_vert_at;
-use faces::prev_corner;
-use faces::upend;
+use faces::rings::next_vert_at;
+use faces::rings::upend;
+use faces::sides::backward;
+use faces::walks::Step;
+use faces::walks::Trip;
+use faces::walks::next_corner;
+use faces::walks::prev_corner;
 use marks::mark;
 ghost use mathlib.Core.Path.{_≡_};
 ghost use mathlib.Core.List.{_++_};

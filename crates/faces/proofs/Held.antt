@@ -17,7 +17,6 @@ use Rattle.rules.proofs.Sound.{Sound}
 use Rattle.rules.proofs.Levels.{Small}
 use Rattle.faces.specs.Words.{linkOf, coded, linksIn, faceCount, Holds}
 use Rattle.faces.specs.Rings.{Walkable, Mated, Ringable, ringOf}
-use Rattle.faces.specs.declared.Turn.the-variants as turn
 use Rattle.faces.proofs.Links.{getD-linksIn}
 
 -- ---- link words and links, one for one

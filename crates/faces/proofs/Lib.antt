@@ -1,7 +1,7 @@
 pub mod Links
 pub mod Trips
 pub mod Trails
-pub mod Rings
+pub mod Gathered
 pub mod Held
 pub mod Readable
 pub mod Retrace

@@ -16,7 +16,7 @@ use Rattle.rules.proofs.Sides.{on-below}
 use Rattle.rules.proofs.Refine.{back-below}
 use Rattle.faces.specs.Words.{linkOf, linksIn}
 use Rattle.faces.specs.Rings.{Walkable, stepOf}
-use Rattle.faces.specs.declared.Step.the-variants as step
+use Rattle.faces.specs.declared.walks.Step.the-variants as step
 
 -- a word that is not 0
 pub link-word : (x : ℕ) → (x ≡ 0 → ⊥) → linkOf x ≡ some (x - 1)

@@ -18,7 +18,7 @@ use Rattle.rules.proofs.Refine.{back-below}
 use Rattle.rules.proofs.Walks.{trail}
 use Rattle.faces.specs.Words.{linksIn}
 use Rattle.faces.specs.Rings.{Ringable, Ends, tripBy, tripOf, inners, backs, downFrom}
-use Rattle.faces.specs.declared.Trip.the-variants as trip
+use Rattle.faces.specs.declared.walks.Trip.the-variants as trip
 use Rattle.faces.proofs.Links.{getD-linksIn}
 use Rattle.faces.proofs.Trips.{first-passed}
 use Rattle.faces.proofs.Trails.{some-passed, faces-in, filled, next-trail, IsRim, inner-is, rim-is, long-is, inner-ends}

@@ -15,12 +15,12 @@ use Rattle.rules.proofs.Refine.{Third, third, k0, k1, k2}
 use Rattle.faces.specs.Words.{linkOf, linksIn}
 use Rattle.faces.specs.Rings.{vert}
 use Rattle.faces.specs.Faces.{vnumOf, at, ofLink, faceLink, faceAt, nextFaceOf, prevFaceOf, nextVertOf, prevVertOf}
-use Rattle.faces.specs.declared.VertNo.{VertNo}
-use Rattle.faces.specs.declared.Face.{Face}
-use Rattle.faces.specs.declared.Across.the-variants as across
-use Rattle.faces.specs.declared.Spot.{Spot}
-use Rattle.faces.specs.declared.Spot.the-variants as spot
-use Rattle.faces.specs.declared.Vert.the-variants as vertex
+use Rattle.faces.specs.declared.sides.VertNo.{VertNo}
+use Rattle.faces.specs.declared.face.Face.{Face}
+use Rattle.faces.specs.declared.face.Across.the-variants as across
+use Rattle.faces.specs.declared.face.Spot.{Spot}
+use Rattle.faces.specs.declared.face.Spot.the-variants as spot
+use Rattle.faces.specs.declared.face.Vert.the-variants as vertex
 use Rattle.faces.proofs.Links.{getD-linksIn}
 
 -- which corner a vertex is, where the corners differ

@@ -15,10 +15,9 @@ use Rattle.rules.specs.Mesh.{closed, ended, long, walk, passed, stopOf, Stop, h
 use Rattle.rules.proofs.Walks.{trail, chain, last-stop, Stopped, all-of}
 use Rattle.faces.specs.Words.{linksIn}
 use Rattle.faces.specs.Rings.{Walkable, Ends, stepOf, tripBy, tripOf}
-use Rattle.faces.specs.declared.Step.{Step}
-use Rattle.faces.specs.declared.Step.the-variants as step
-use Rattle.faces.specs.declared.Trip.the-variants as trip
-use Rattle.faces.specs.declared.Turn.the-variants as turn
+use Rattle.faces.specs.declared.walks.Step.{Step}
+use Rattle.faces.specs.declared.walks.Step.the-variants as step
+use Rattle.faces.specs.declared.walks.Trip.the-variants as trip
 use Rattle.faces.proofs.Links.{next-below, length-linksIn}
 
 pub some-passed : (next : ℕ → mesh.Step) (n s : ℕ) → 0 < n → 0 < length (trail next n (here s))

@@ -10,12 +10,12 @@ use Rattle.lists.specs.Lists.{lastOf}
 use Rattle.rules.specs.Mesh as mesh
 use Rattle.rules.specs.Mesh.{Walk, stop, past, closed, ended, long, walk, passed, stopOf, Stop, home, off, here, nextCorner, prevCorner, rimFan, fanOf, fan}
 use Rattle.faces.specs.Rings.{stepOf, tripBy, tripOf, rimTurn, turnOf}
-use Rattle.faces.specs.declared.Step.{Step}
-use Rattle.faces.specs.declared.Step.the-variants as step
-use Rattle.faces.specs.declared.Trip.{Trip}
-use Rattle.faces.specs.declared.Trip.the-variants as trip
-use Rattle.faces.specs.declared.Turn.{Turn}
-use Rattle.faces.specs.declared.Turn.the-variants as turn
+use Rattle.faces.specs.declared.walks.Step.{Step}
+use Rattle.faces.specs.declared.walks.Step.the-variants as step
+use Rattle.faces.specs.declared.walks.Trip.{Trip}
+use Rattle.faces.specs.declared.walks.Trip.the-variants as trip
+use Rattle.faces.specs.declared.walks.Turn.{Turn}
+use Rattle.faces.specs.declared.walks.Turn.the-variants as turn
 
 -- a walk with n corners before it, the last of them e
 abbrev pub tripFrom : ℕ → ℕ → Walk → Trip

@@ -6,16 +6,16 @@ use lib.ListN.{getD}
 use lib.Dec.{eqb}
 use Rattle.lists.specs.Lists.{pick}
 use Rattle.faces.specs.Words.{linkOf}
-use Rattle.faces.specs.declared.VertNo.{VertNo}
-use Rattle.faces.specs.declared.Face.{Face}
-use Rattle.faces.specs.declared.Link.{Link}
-use Rattle.faces.specs.declared.Link.the-variants as link
-use Rattle.faces.specs.declared.Spot.{Spot}
-use Rattle.faces.specs.declared.Spot.the-variants as spot
-use Rattle.faces.specs.declared.Across.{Across}
-use Rattle.faces.specs.declared.Across.the-variants as across
-use Rattle.faces.specs.declared.Vert.{Vert}
-use Rattle.faces.specs.declared.Vert.the-variants as vert
+use Rattle.faces.specs.declared.sides.VertNo.{VertNo}
+use Rattle.faces.specs.declared.face.Face.{Face}
+use Rattle.faces.specs.declared.sides.Link.{Link}
+use Rattle.faces.specs.declared.sides.Link.the-variants as link
+use Rattle.faces.specs.declared.face.Spot.{Spot}
+use Rattle.faces.specs.declared.face.Spot.the-variants as spot
+use Rattle.faces.specs.declared.face.Across.{Across}
+use Rattle.faces.specs.declared.face.Across.the-variants as across
+use Rattle.faces.specs.declared.face.Vert.{Vert}
+use Rattle.faces.specs.declared.face.Vert.the-variants as vert
 
 -- the first corner that is the vertex
 abbrev pub vnumOf : Face → VertNo → Spot

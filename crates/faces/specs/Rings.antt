@@ -11,14 +11,14 @@ use Rattle.turns.specs.Turns.{mostValence}
 use Rattle.rules.specs.Mesh as mesh
 use Rattle.rules.specs.Mesh.{onward, backward, corner, Walk, walk, passed, stopOf, Stop, Fan, inner, rim, endless, fan, valence, ring}
 use Rattle.faces.specs.Words.{linkOf, linksIn}
-use Rattle.faces.specs.declared.VertNo.{VertNo}
-use Rattle.faces.specs.declared.Step.{Step}
-use Rattle.faces.specs.declared.Step.the-variants as step
-use Rattle.faces.specs.declared.Trip.{Trip}
-use Rattle.faces.specs.declared.Trip.the-variants as trip
-use Rattle.faces.specs.declared.Turn.{Turn}
-use Rattle.faces.specs.declared.Turn.the-variants as turn
-use Rattle.faces.specs.declared.Ring.{Ring}
+use Rattle.faces.specs.declared.sides.VertNo.{VertNo}
+use Rattle.faces.specs.declared.walks.Step.{Step}
+use Rattle.faces.specs.declared.walks.Step.the-variants as step
+use Rattle.faces.specs.declared.walks.Trip.{Trip}
+use Rattle.faces.specs.declared.walks.Trip.the-variants as trip
+use Rattle.faces.specs.declared.walks.Turn.{Turn}
+use Rattle.faces.specs.declared.walks.Turn.the-variants as turn
+use Rattle.faces.specs.declared.rings.Ring.{Ring}
 
 -- what a walk asks, and no more than bounds: the link words of n faces from `at` on lead to no side past them, and corner s is one of theirs
 pub record Walkable (w : List ℕ) (at n s : ℕ) : Type 0 where

@@ -22,7 +22,7 @@ use Rattle.rules.proofs.Refine.{Good, back-below}
 use Rattle.rules.proofs.Range.{AllNear}
 use Rattle.faces.specs.Words.{linkOf, coded, linksIn}
 use Rattle.faces.specs.Rings.{Ringable, ringOf}
-use Rattle.faces.specs.declared.Ring.{Ring}
+use Rattle.faces.specs.declared.rings.Ring.{Ring}
 use Rattle.faces.proofs.Links as words
 use Rattle.faces.proofs.Held.{link-coded, room-held, corner-word, corner-below, link-word, link-bound, start-below, start-ringable}
 use Rattle.weights.specs.Lent.{byRing, onRim, within, Readable, AllReadable, There, AllThere}

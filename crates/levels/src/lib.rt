@@ -135,7 +135,7 @@ fn second_half(w: u32) -> u32
     if w == 0 {
         0
     } else {
-        (faces::backward(restarted(faces::onward((w - 1) as usize))) + 1) as u32
+        (faces::sides::backward(restarted(faces::sides::onward((w - 1) as usize))) + 1) as u32
     }
 }
 

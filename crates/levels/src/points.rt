@@ -1,9 +1,9 @@
 // The new positions of one level in f32: read in one part of the lent coordinates, written in the other.
 use crate::first_met;
-use faces::VertNo;
-use faces::backward;
-use faces::one_ring;
-use faces::onward;
+use faces::rings::one_ring;
+use faces::sides::VertNo;
+use faces::sides::backward;
+use faces::sides::onward;
 use turns::MOST_VALENCE;
 use vectors::Vec3;
 use weights::Stage;

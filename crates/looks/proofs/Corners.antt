@@ -16,15 +16,15 @@ use Rattle.faces.specs.Words.{linkOf}
 use Rattle.faces.specs.Rings.{vert, stepOf}
 use Rattle.faces.proofs.Held.{link-coded}
 use Rattle.faces.specs.Faces.{vnumOf, at, ofLink, faceLink, faceAt, nextFaceOf, prevFaceOf}
-use Rattle.faces.specs.declared.Face.{Face}
-use Rattle.faces.specs.declared.FaceNo.{FaceNo}
-use Rattle.faces.specs.declared.VertNo.{VertNo}
-use Rattle.faces.specs.declared.Across.the-variants as across
-use Rattle.faces.specs.declared.Spot.{Spot}
-use Rattle.faces.specs.declared.Spot.the-variants as spot
+use Rattle.faces.specs.declared.face.Face.{Face}
+use Rattle.faces.specs.declared.sides.FaceNo.{FaceNo}
+use Rattle.faces.specs.declared.sides.VertNo.{VertNo}
+use Rattle.faces.specs.declared.face.Across.the-variants as across
+use Rattle.faces.specs.declared.face.Spot.{Spot}
+use Rattle.faces.specs.declared.face.Spot.the-variants as spot
 use Rattle.cage.specs.Chains.{Apart}
-use Rattle.faces.specs.declared.Step.{Step}
-use Rattle.faces.specs.declared.Step.the-variants as step
+use Rattle.faces.specs.declared.walks.Step.{Step}
+use Rattle.faces.specs.declared.walks.Step.the-variants as step
 use Rattle.looks.specs.Looked.{Listed, looked, bareAt, spotIn}
 use Rattle.looks.proofs.Found.{corner-word, link-word, word-is}
 

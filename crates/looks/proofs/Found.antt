@@ -17,7 +17,7 @@ use Rattle.rules.specs.Mesh.{onward, corner, Side, side, sides, opposite, links
 use Rattle.rules.proofs.Sides.{length-links, length-sides, getD-sides, getD-links}
 use Rattle.faces.specs.Words.{linkOf, coded}
 use Rattle.faces.specs.Faces.{faceLink, faceAt}
-use Rattle.faces.specs.declared.Face.{Face}
+use Rattle.faces.specs.declared.face.Face.{Face}
 use Rattle.looks.specs.Looked.{looked}
 
 abbrev off : Side

@@ -14,9 +14,9 @@ use Rattle.rules.proofs.Refine.{back-below}
 use Rattle.rules.proofs.Walks.{trail, all-of}
 use Rattle.faces.specs.Faces.{nextVertOf, prevVertOf}
 use Rattle.faces.specs.Rings.{stepOf, tripOf, vert}
-use Rattle.faces.specs.declared.Vert.the-variants as vertex
-use Rattle.faces.specs.declared.Step.the-variants as step
-use Rattle.faces.specs.declared.Trip.the-variants as trip
+use Rattle.faces.specs.declared.face.Vert.the-variants as vertex
+use Rattle.faces.specs.declared.walks.Step.the-variants as step
+use Rattle.faces.specs.declared.walks.Trip.the-variants as trip
 use Rattle.faces.proofs.Links.{Below, on-link-below, step-below}
 use Rattle.faces.proofs.Trails.{some-passed, ended-is}
 use Rattle.faces.proofs.Readable.{reads}

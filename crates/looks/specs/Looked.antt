@@ -6,12 +6,12 @@ use mathlib.Core.List.{List, _++_, map}
 use lib.ListN.{length}
 use Rattle.turns.specs.Turns.{mostValence}
 use Rattle.rules.specs.Mesh.{links, endless, fan, valence}
-use Rattle.faces.specs.declared.Spot.{Spot}
-use Rattle.faces.specs.declared.Spot.the-variants as spot
-use Rattle.faces.specs.declared.Face.{Face}
-use Rattle.faces.specs.declared.Link.the-variants as link
-use Rattle.faces.specs.declared.Vert.{Vert}
-use Rattle.faces.specs.declared.Vert.the-variants as vertex
+use Rattle.faces.specs.declared.face.Spot.{Spot}
+use Rattle.faces.specs.declared.face.Spot.the-variants as spot
+use Rattle.faces.specs.declared.face.Face.{Face}
+use Rattle.faces.specs.declared.sides.Link.the-variants as link
+use Rattle.faces.specs.declared.face.Vert.{Vert}
+use Rattle.faces.specs.declared.face.Vert.the-variants as vertex
 use Rattle.faces.specs.Faces.{vertAt}
 use Rattle.lists.specs.Lists.{part}
 use Rattle.cage.specs.Chains.{Apart}

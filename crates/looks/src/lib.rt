@@ -1,19 +1,19 @@
 // What is found by looking through a face list, each time it is asked: what lies across a side, a face with its links, the walks round a vertex, its ring. No links are kept.
 pub mod rings;
 
-use faces::Across;
-use faces::Face;
-use faces::FaceNo;
-use faces::Link;
-use faces::Spot;
-use faces::Step;
-use faces::VertNo;
-use faces::decode;
-use faces::next_face;
-use faces::onward;
-use faces::prev_face;
-use faces::step_to;
-use faces::vnum;
+use faces::face::Across;
+use faces::face::Face;
+use faces::face::Spot;
+use faces::face::next_face;
+use faces::face::prev_face;
+use faces::face::vnum;
+use faces::sides::FaceNo;
+use faces::sides::Link;
+use faces::sides::VertNo;
+use faces::sides::decode;
+use faces::sides::onward;
+use faces::walks::Step;
+use faces::walks::step_to;
 use marks::set_mark;
 ghost use mathlib.Core.Path.{_≡_};
 ghost use mathlib.Core.Option.{none};

@@ -1,5 +1,5 @@
 // The whole engine, once the checks are passed.
-use faces::VertNo;
+use faces::sides::VertNo;
 use turns::MOST_VALENCE;
 use weights::Stage;
 use weights::micrometres::Whole3;
@@ -30,7 +30,7 @@ fn limit_at(words: &[u32], at: usize, nf: usize, nv: usize, xs: &[i32], u: usize
 {
     let s = words[at + 6 * nf + u] as usize;
     let mut vs: [u32; MOST_VALENCE] = [0; MOST_VALENCE];
-    let ring = faces::one_ring(words, at, at + 3 * nf, nf, s, &mut vs);
+    let ring = faces::rings::one_ring(words, at, at + 3 * nf, nf, s, &mut vs);
     weights::micrometres::vertex(xs, VertNo(u as u32), &vs[..ring.n], ring.rim, Stage::Limit)
 }
 

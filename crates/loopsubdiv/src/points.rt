@@ -1,5 +1,5 @@
 // The f32 engine, once the checks are passed. It differs from the whole engine in its number type and in its normals.
-use faces::VertNo;
+use faces::sides::VertNo;
 use turns::MOST_VALENCE;
 use vectors::Vec3;
 use weights::Stage;
@@ -28,7 +28,7 @@ fn limit_at(words: &[u32], at: usize, nf: usize, nv: usize, xs: &[f32], u: usize
 {
     let s = words[at + 6 * nf + u] as usize;
     let mut vs: [u32; MOST_VALENCE] = [0; MOST_VALENCE];
-    let ring = faces::one_ring(words, at, at + 3 * nf, nf, s, &mut vs);
+    let ring = faces::rings::one_ring(words, at, at + 3 * nf, nf, s, &mut vs);
     weights::points::vertex(xs, VertNo(u as u32), &vs[..ring.n], ring.rim, Stage::Limit)
 }
 

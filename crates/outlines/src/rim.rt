@@ -63,7 +63,7 @@ pub fn next_word(indices: &[u32], leaving: &[u32], first: usize, t: usize) -> u3
     requires { ⌜ Faces (now indices) × Below (length (now leaving)) (now indices) × Left (now indices) (now leaving) × (t < length (now indices)) × (first < length (now indices)) ⌝ }
     ensures { λ r. ⌜ r ≡ stepWord (stepTo first (nextRim (now (indices .entry)) (linksOf (now (indices .entry))) t)) ⌝ }
 {
-    let w = leaving[indices[faces::onward(t)] as usize];
+    let w = leaving[indices[faces::sides::onward(t)] as usize];
     if w as usize == first + 1 { 0 } else { w }
 }
 

@@ -1,6 +1,6 @@
 // The new positions of one level, and the limit: `points` of crate `creases` and the limit of crate `sharp`, where each ring and each far corner is looked up.
 use creases::creased;
-use faces::VertNo;
+use faces::sides::VertNo;
 use levels::first_met;
 use looks::across;
 use looks::rings::next_of;

@@ -15,7 +15,7 @@ ghost use Rattle.scans.specs.Starts.{Started};
 use cage::fans::first;
 use cage::fans::short;
 use cage::fans::wide;
-use faces::Turn;
+use faces::walks::Turn;
 use limits::Check;
 use limits::no;
 use looks::rings::turn_round;

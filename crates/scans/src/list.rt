@@ -7,7 +7,7 @@ ghost use Rattle.rules.specs.Mesh.{side, sides};
 ghost use Rattle.rules.specs.Refusals.{check, same, usedBefore, has as hasOf, sameSet};
 ghost use Rattle.limits.specs.Verdicts.{verdictOf};
 ghost use Rattle.cage.specs.Chains.{Faces};
-use faces::onward;
+use faces::sides::onward;
 use limits::Check;
 use limits::no;
 

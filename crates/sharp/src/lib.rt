@@ -1,5 +1,5 @@
 // The whole engine where edges are sharp, once the checks are passed: `micrometres` of crate `loopsubdiv`, with marks.
-use faces::VertNo;
+use faces::sides::VertNo;
 use turns::MOST_VALENCE;
 use weights::Stage;
 use weights::micrometres::Whole3;

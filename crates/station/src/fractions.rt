@@ -1,6 +1,6 @@
 // The exact limit of a vertex at level 0 and 1, from the control cage in words: three raised coordinates over one denominator. Naturals only, and no product leaves 64 bits.
-use faces::backward;
-use faces::onward;
+use faces::sides::backward;
+use faces::sides::onward;
 use turns::MOST_VALENCE;
 use weights::Stage;
 use weights::micrometres::Share;
@@ -105,7 +105,7 @@ fn vertex_over(
 {
     let s = words[at + 6 * nf + u] as usize;
     let mut vs: [u32; MOST_VALENCE] = [0; MOST_VALENCE];
-    let ring = faces::one_ring(words, at, at + 3 * nf, nf, s, &mut vs);
+    let ring = faces::rings::one_ring(words, at, at + 3 * nf, nf, s, &mut vs);
     ring_over(xs, u, &vs[..ring.n], ring.rim, stage)
 }
 

@@ -17,7 +17,7 @@ use Rattle.rules.specs.Tangents.{Pair, point, tangentsAt, normal, threeOf, norm
 use Rattle.rules.proofs.Turns.{Turned, round, fringe, turned}
 use Rattle.faces.specs.Words.{linksIn}
 use Rattle.faces.specs.Rings.{Ringable, isRim, ringOf}
-use Rattle.faces.specs.declared.Ring.{Ring}
+use Rattle.faces.specs.declared.rings.Ring.{Ring}
 use Rattle.faces.proofs.Held.{start-ringable, length-ring}
 use Rattle.weights.specs.Lent.{There, AllThere, ringful}
 use Rattle.weights.proofs.Joins.{fanAt, ringAt, there, ring-there, lent-rim, lent-fits, lent-ring}

@@ -1,6 +1,6 @@
 // docs/RULES.md, Positions: tangents, of the limit positions of a vertex and its ring, in f32: each operation rounded once, in the written order.
-use faces::VertNo;
-use faces::one_ring;
+use faces::rings::one_ring;
+use faces::sides::VertNo;
 use turns::MOST_VALENCE;
 use turns::cosine;
 use turns::cosines;

@@ -24,7 +24,7 @@ use Rattle.rules.proofs.Levels.{Small}
 use Rattle.rules.proofs.Range.{AllNear}
 use Rattle.faces.specs.Words.{linksIn, Holds}
 use Rattle.faces.specs.Rings.{isRim, ringOf}
-use Rattle.faces.specs.declared.Ring.{Ring}
+use Rattle.faces.specs.declared.rings.Ring.{Ring}
 use Rattle.faces.proofs.Held.{length-ring, start-ring, start-ring-of}
 use Rattle.weights.specs.Lent.{byRing, onRim, within, There, AllThere, Readable, AllReadable}
 

@@ -2,7 +2,7 @@
 pub mod micrometres;
 pub mod points;
 
-use faces::VertNo;
+use faces::sides::VertNo;
 use vectors::Vec3;
 ghost use mathlib.Core.Path.{_≡_};
 ghost use Prim.Native.Nat.{_<_, _≤_, min, max};

@@ -2,7 +2,7 @@
 use crate::Stage;
 use crate::higher;
 use crate::lower;
-use faces::VertNo;
+use faces::sides::VertNo;
 use whole::put;
 use whole::raised_at;
 use whole::rounded;

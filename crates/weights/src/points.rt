@@ -4,7 +4,7 @@ use crate::Stage;
 use crate::higher;
 use crate::lower;
 use crate::number;
-use faces::VertNo;
+use faces::sides::VertNo;
 use turns::MOST_VALENCE;
 use vectors::Vec3;
 ghost use mathlib.Core.Path.{_≡_};

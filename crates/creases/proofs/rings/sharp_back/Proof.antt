@@ -18,7 +18,7 @@ use Rattle.faces.specs.Rings.{stepOf, backs}
 use Rattle.faces.proofs.Links.{prev-at, prev-below}
 use Rattle.faces.proofs.Trails.{some-passed, then-here, then-home, then-off}
 use Rattle.faces.proofs.Trips.{first-passed}
-use Rattle.faces.proofs.Rings.{store-all, back-at}
+use Rattle.faces.proofs.Gathered.{store-all, back-at}
 use Rattle.marks.specs.Marks.{markOf, marksIn}
 use Rattle.marks.proofs.Marks.{mark-at}
 use Rattle.creases.specs.Rings.{comes}

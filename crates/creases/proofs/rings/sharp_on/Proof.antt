@@ -15,11 +15,11 @@ use Rattle.rules.specs.Mesh.{onward, corner, here, Stop, closed, ended, long, w
 use Rattle.rules.proofs.Sides.{on-below}
 use Rattle.faces.specs.Words.{linksIn}
 use Rattle.faces.specs.Rings.{stepOf, tripBy, tripOf, inners}
-use Rattle.faces.specs.declared.Trip.the-variants as trip
+use Rattle.faces.specs.declared.walks.Trip.the-variants as trip
 use Rattle.faces.proofs.Links.{next-at, next-below}
 use Rattle.faces.proofs.Trails.{some-passed, filled, from-corner, then-here, then-home, then-off}
 use Rattle.faces.proofs.Trips.{first-passed, tripFrom, tripOn, trip-starts, trip-turn, trip-long}
-use Rattle.faces.proofs.Rings.{store-more, store-all, inner-at}
+use Rattle.faces.proofs.Gathered.{store-more, store-all, inner-at}
 use Rattle.marks.specs.Marks.{marksIn}
 use Rattle.marks.proofs.Marks.{mark-at}
 use Rattle.creases.specs.Rings.{metOf, noted}

@@ -15,7 +15,7 @@ use Rattle.rules.specs.Sharp.{sharp}
 use Rattle.faces.specs.Rings.{inners}
 use Rattle.faces.proofs.Trails.{some-passed, then-here, then-home, then-off}
 use Rattle.faces.proofs.Trips.{first-passed}
-use Rattle.faces.proofs.Rings.{store-more, store-all}
+use Rattle.faces.proofs.Gathered.{store-more, store-all}
 use Rattle.marks.specs.Marks.{marksIn}
 use Rattle.marks.proofs.Marks.{mark-at}
 use Rattle.creases.specs.Rings.{metOf, noted, sharpRingOf}

@@ -16,7 +16,7 @@ use Rattle.rules.proofs.Refine.{back-below}
 use Rattle.faces.specs.Rings.{backs}
 use Rattle.faces.proofs.Trails.{some-passed, then-here, then-home, then-off}
 use Rattle.faces.proofs.Trips.{first-passed}
-use Rattle.faces.proofs.Rings.{store-all}
+use Rattle.faces.proofs.Gathered.{store-all}
 use Rattle.marks.specs.Marks.{markOf, marksIn}
 use Rattle.marks.proofs.Marks.{mark-at}
 use Rattle.creases.specs.Rings.{comes}

@@ -4,7 +4,7 @@ use Prim.Native.Nat.{_*_}
 use Rattle.lists.specs.Lists.{part}
 use Rattle.rules.specs.Mesh.{here, walk, links, prevCorner, fan}
 use Rattle.faces.specs.Rings.{tripOf, rimTurn, turnOf}
-use Rattle.faces.specs.declared.Trip.{Trip}
+use Rattle.faces.specs.declared.walks.Trip.{Trip}
 use Rattle.faces.proofs.Trips.{turnBy, turn-is}
 use Rattle.looks.proofs.Walks.{faces-in, filled, end-below}
 use borrow.Author.Needs.{needs}
