@@ -8,7 +8,7 @@ use mathlib.Core.List.{List, [], _∷_, map}
 use lib.Dec.{eqb}
 use lib.ListN.{length, getD, take, length-map}
 use lib.IntN.{ℤ, pos}
-use Rattle.lists.specs.Lists.{pick, part, bit}
+use Rattle.lists.specs.Lists.{pick, part}
 use Rattle.whole.specs.Whole.{reach}
 use Rattle.whole.specs.Fraction.{Fraction, ofWhole}
 use mathlib.Core.Option.{none, some}
@@ -21,17 +21,19 @@ use Rattle.faces.proofs.Links as words
 use Rattle.faces.proofs.Held.{link-coded, corner-word, link-word}
 use Rattle.levels.specs.Moves.{Movable}
 use Rattle.levels.proofs.Moves.{corner-small, across-below}
-use Rattle.rules.specs.Position.{Stage, refining, limit, ringRule, rimRule, each, outOf, own, exact}
+use Rattle.rules.specs.Position.{Stage, refining, limit, ringRule, rimRule, each, own, exact}
 use Rattle.rules.specs.Levels.{three, moved, ends}
 use Rattle.lists.proofs.Places.{last-at}
 use Rattle.rules.proofs.Weights.{ring-adds-up, rim-adds-up}
 use Rattle.rules.proofs.Spokes.{limit-at}
 use Rattle.rules.proofs.Range.{AllNear}
 use Rattle.weights.specs.Weights.{ruleOf}
-use Rattle.weights.specs.Lent.{weighing, weighings, byRing, shareOf}
+use Rattle.weights.specs.Lent.{byRing, shared, allOf, own as shareOwn, Shares}
 use Rattle.weights.specs.declared.micrometres.Share.{Share}
+use Rattle.weights.specs.declared.micrometres.Rule.{Rule}
+use Rattle.weights.specs.declared.micrometres.Rule.the-variants.{Ring, Rim}
 use Rattle.levels.specs.Level.{meshIn}
-use Rattle.station.specs.Far.{Over, raisedAt, sumN, Stands, Exactly, exact0, movedIn, eightAt, eightIn, Ruled, Refined2}
+use Rattle.station.specs.Far.{Over, raisedAt, sumN, weightedN, Stands, Exactly, exact0, movedIn, eightAt, eightIn, Ruled, Refined2}
 use Rattle.station.specs.declared.fractions.Over3.{Over3}
 use Rattle.station.proofs.Over.{over-blend}
 use Rattle.station.proofs.Edge.{over-to, at0, all0}
@@ -48,10 +50,8 @@ sum-next f (x ∷ l) (suc i) h =
 -- ---- the rule
 
 module _ (xs : List ℤ) (near : AllNear xs) (c : ℕ) where
-  pub ring-val : (s : Stage) (rim : Bool) (u : ℕ) (vs : List ℕ) → 0 < length vs
-      → Over (outOf (ruleOf s rim (length vs)))
-      (own (ruleOf s rim (length vs)) (weighings rim (length vs)) * raisedAt xs c u + each (ruleOf s rim (length vs)) * sumN (map (raisedAt xs c) (weighing rim vs)))
-      (byRing exact s (map ofWhole xs) u rim vs c)
+  ring-val : (s : Stage) (rim : Bool) (u : ℕ) (vs : List ℕ) → 0 < length vs
+      → Over (allOf (shared (ruleOf s rim (length vs)))) (weightedN (shared (ruleOf s rim (length vs))) (raisedAt xs c) u vs) (byRing exact s (map ofWhole xs) u rim vs c)
   ring-val s true u vs h =
       over-to (omega arith) refl refl (over-blend {D = 1} (rimRule s) (rim-adds-up s) (at0 xs (near .at) c u) (all0 xs (near .at) c (ends vs)))
   ring-val s false u vs h =
@@ -59,28 +59,31 @@ module _ (xs : List ℤ) (near : AllNear xs) (c : ℕ) where
       over-to (omega arith) (ap (λ (k : ℕ). own (ringRule s (length vs)) k * raisedAt xs c u + each (ringRule s (length vs)) * sumN (map (raisedAt xs c) vs)) a) refl
       (over-blend {D = 1} (ringRule s (length vs)) (rw a (ring-adds-up s (length vs) h)) (at0 xs (near .at) c u) (all0 xs (near .at) c vs))
 
-  pub by-share : (s : Stage) (rim : Bool) (u : ℕ) (vs : List ℕ) → 0 < length vs → (w : Share) (x : ℕ) → w ≡ shareOf (ruleOf s rim (length vs)) (weighings rim (length vs))
-      → x ≡ w .own * raisedAt xs c u + w .each * sumN (map (raisedAt xs c) (weighing rim vs)) → Over (w .all) x (byRing exact s (map ofWhole xs) u rim vs c)
-  by-share s rim u vs h w x e q =
-      over-to (ap (λ (k : Share). k .all) (sym e)) (ap (λ (k : Share). k .own * raisedAt xs c u + k .each * sumN (map (raisedAt xs c) (weighing rim vs))) (sym e) ∙ sym q) refl (ring-val s rim u vs h)
+  pub by-rule : (s : Stage) (rim : Bool) (u : ℕ) (vs : List ℕ) → 0 < length vs → (r : Rule) (d x : ℕ) → r ≡ shared (ruleOf s rim (length vs)) → d ≡ allOf r
+      → x ≡ weightedN r (raisedAt xs c) u vs → Over d x (byRing exact s (map ofWhole xs) u rim vs c)
+  by-rule s rim u vs h r d x e f q =
+      over-to (sym (f ∙ ap allOf e)) (sym (q ∙ ap (λ (k : Rule). weightedN k (raisedAt xs c) u vs) e)) refl (ring-val s rim u vs h)
 
--- ---- those that are weighed
+-- ---- what the arms of a rule give
 
-pub ends-sum : (f : ℕ → ℕ) (rim : Bool) (vs : List ℕ) (a b : ℕ) → rim ≡ true → 0 < length vs → a ≡ f (getD vs 0 0) → b ≡ f (getD vs (length vs - 1) 0) → a + b ≡ sumN (map f (weighing rim vs))
-ends-sum f true vs a b e h p q = let l = ap f (last-at 0 vs h) in omega (arith, p, q, l)
-ends-sum f false vs a b e h p q = absurd (let z : _≡_ {A = ℕ} 0 1 = ap bit e in omega arith)
+pub ring-weighted : {r : Rule} {b : Share} (f : ℕ → ℕ) (u : ℕ) (vs : List ℕ) {p q x : ℕ} → r ≡ Ring b → p ≡ f u → q ≡ sumN (map f vs)
+    → (x ≡ shareOwn b (length vs) * p + b .each * q) × (x ≤ b .all * (2 * reach)) → (x ≡ weightedN r f u vs) × (x ≤ allOf r * (2 * reach))
+ring-weighted f u vs e p q x = rw (e, sym p, sym q) x
 
-pub ends-most : (rim : Bool) (n a b : ℕ) → rim ≡ true → a ≤ 2 * reach → b ≤ 2 * reach → a + b ≤ weighings rim n * (2 * reach)
-ends-most rim n a b e p q = rw e (omega arith)
+pub rim-weighted : {r : Rule} {b : Share} (f : ℕ → ℕ) (u : ℕ) (vs : List ℕ) {p q x : ℕ} → r ≡ Rim b → p ≡ f u → q ≡ sumN (map f (ends vs))
+    → (x ≡ shareOwn b 2 * p + b .each * q) × (x ≤ b .all * (2 * reach)) → (x ≡ weightedN r f u vs) × (x ≤ allOf r * (2 * reach))
+rim-weighted f u vs e p q x = rw (e, sym p, sym q) x
 
-pub ring-sum-is : (f : ℕ → ℕ) (rim : Bool) (vs : List ℕ) (a : ℕ) → rim ≡ false → a ≡ sumN (map f vs) → a ≡ sumN (map f (weighing rim vs))
-ring-sum-is f rim vs a e p = rw e p
+pub ends-sum : (f : ℕ → ℕ) (vs : List ℕ) (a b : ℕ) → 0 < length vs → a ≡ f (getD vs 0 0) → b ≡ f (getD vs (length vs - 1) 0) → a + b ≡ sumN (map f (ends vs))
+ends-sum f vs a b h p q = let l = ap f (last-at 0 vs h) in omega (arith, p, q, l)
 
-pub ring-most : (rim : Bool) (n a : ℕ) → rim ≡ false → a ≤ n * (2 * reach) → a ≤ weighings rim n * (2 * reach)
-ring-most rim n a e p = rw e p
+-- the shares of a rule are of a whole above zero, and not of many
+pub shares-few : (r : Rule) (n : ℕ) → Shares r n → (0 < allOf r) × (allOf r ≤ 8 * mostValence)
+shares-few (Ring b) n h = (h .above, h .few)
+shares-few (Rim b) n h = (h .above, h .few)
 
 -- a refined vertex is over eighths
-pub eighth-of : (s : Stage) (rim : Bool) (n : ℕ) → s ≡ refining → 8 * (outOf (ruleOf s rim n) / 8) ≡ outOf (ruleOf s rim n)
+pub eighth-of : (s : Stage) (rim : Bool) (n : ℕ) → s ≡ refining → 8 * (allOf (shared (ruleOf s rim n)) / 8) ≡ allOf (shared (ruleOf s rim n))
 eighth-of s true n e = rw e refl
 eighth-of s false n e = rw e (go (eqb n 3))
   where

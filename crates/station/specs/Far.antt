@@ -5,7 +5,7 @@ use mathlib.Core.Path.{_≡_}
 use mathlib.Core.List.{List, [], _∷_, map}
 use mathlib.Core.Option.{Option, none, some}
 use lib.Dec.{eqb, ltb}
-use lib.ListN.{getD}
+use lib.ListN.{length, getD}
 use lib.IntN.{ℤ, pos}
 use lib.Signed.{mag}
 use Rattle.lists.specs.Lists.{pick, part}
@@ -15,7 +15,10 @@ use Rattle.whole.specs.Fraction.{Val}
 use Rattle.turns.specs.Turns.{mostValence}
 use Rattle.rules.specs.Mesh.{onward, backward, corner, links, refined}
 use Rattle.rules.specs.Position.{Stage, refining, exact}
-use Rattle.rules.specs.Levels.{coord, newPositions, limits, moved}
+use Rattle.rules.specs.Levels.{ends, coord, newPositions, limits, moved}
+use Rattle.weights.specs.declared.micrometres.Rule.{Rule}
+use Rattle.weights.specs.declared.micrometres.Rule.the-variants.{Ring, Rim}
+use Rattle.weights.specs.Lent.{own}
 use Rattle.levels.specs.Level.{meshIn}
 use Rattle.levels.specs.Moves.{edgesIn}
 use Rattle.station.specs.Acceptance.{needsAt}
@@ -83,6 +86,11 @@ raisedAt xs c u = raise (getD xs (3 * u + c) (pos 0))
 abbrev pub sumN : List ℕ → ℕ
 sumN [] = 0
 sumN (x ∷ xs) = x + sumN xs
+
+-- a vertex and those of its ring that its rule weighs, by what f has of each, out of the whole of its weight
+abbrev pub weightedN : Rule → (ℕ → ℕ) → ℕ → List ℕ → ℕ
+weightedN (Ring b) f u vs = own b (length vs) * f u + b .each * sumN (map f vs)
+weightedN (Rim b) f u vs = own b 2 * f u + b .each * sumN (map f (ends vs))
 
 -- the new point of an edge, times 8: from side s with this link
 abbrev pub eightAt : List ℤ → ℕ → List ℕ → ℕ → Option ℕ → ℕ

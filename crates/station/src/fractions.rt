@@ -3,7 +3,8 @@ use faces::sides::backward;
 use faces::sides::onward;
 use turns::MOST_VALENCE;
 use weights::Stage;
-use weights::micrometres::Share;
+use weights::micrometres::Rule;
+use weights::micrometres::mix;
 ghost use mathlib.Core.Path.{_≡_};
 ghost use mathlib.Core.Bool.{true};
 ghost use mathlib.Core.List.{map};
@@ -14,11 +15,12 @@ ghost use Rattle.whole.specs.Whole.{reach};
 ghost use Rattle.whole.specs.Fraction.{ofWhole};
 ghost use Rattle.rules.specs.Mesh.{links, firstMet, middle};
 ghost use Rattle.rules.specs.Position.{exact};
+ghost use Rattle.rules.specs.Levels.{ends};
 ghost use Rattle.rules.specs.Sound.{AllNear};
 ghost use Rattle.weights.specs.Weights.{staged};
-ghost use Rattle.weights.specs.Lent.{weighing, weighings, byRing, Readable, AllReadable, Whole};
+ghost use Rattle.weights.specs.Lent.{byRing, Readable, AllReadable, allOf, Shares};
 ghost use Rattle.levels.specs.Moves.{Movable};
-ghost use Rattle.station.specs.Far.{Exactly, exact0, exact1, raisedAt, sumN, Stands, Ruled, movedIn, eightIn, sixIn, Ends, RimOver, InnerOver};
+ghost use Rattle.station.specs.Far.{Exactly, exact0, exact1, raisedAt, sumN, weightedN, Stands, Ruled, movedIn, eightIn, sixIn, Ends, RimOver, InnerOver};
 
 // A point over one denominator, in raised numbers.
 pub struct Over3 {
@@ -50,27 +52,25 @@ fn ring_sum(xs: &[i32], ring: &[u32], c: usize) -> u64
     x
 }
 
-// And of those of it that are weighed.
-fn weighed_sum(xs: &[i32], ring: &[u32], rim: bool, c: usize) -> u64
+// And of its first and its last.
+fn ends_sum(xs: &[i32], ring: &[u32], c: usize) -> u64
     requires { ⌜ (c < 3) × ((0 < length (now ring)) × AllReadable (now xs) (now ring)) ⌝ }
-    ensures { λ r. ⌜ (r ≡ sumN (map (raisedAt (now (xs .entry)) c) (weighing rim (now (ring .entry))))) × (r ≤ weighings rim (length (now (ring .entry))) * (2 * reach)) ⌝ }
+    ensures { λ r. ⌜ (r ≡ sumN (map (raisedAt (now (xs .entry)) c) (ends (now (ring .entry))))) × (r ≤ 2 * (2 * reach)) ⌝ }
 {
-    if rim {
-        at(xs, ring[0] as usize, c) + at(xs, ring[ring.len() - 1] as usize, c)
-    } else {
-        ring_sum(xs, ring, c)
-    }
+    at(xs, ring[0] as usize, c) + at(xs, ring[ring.len() - 1] as usize, c)
 }
 
-// Coordinate c of vertex u by its shares.
-fn mix(xs: &[i32], u: usize, ring: &[u32], rim: bool, w: Share, c: usize) -> u64
+// Coordinate c of vertex u by its rule, out of the whole of its weight.
+fn weighted(xs: &[i32], u: usize, ring: &[u32], rule: Rule, c: usize) -> u64
     requires ring { ⌜ (c < 3) × ((0 < length (now ring)) × (Readable (now xs) u × AllReadable (now xs) (now ring))) ⌝ }
-    requires shares { ⌜ Whole w (weighings rim (length (now ring))) ⌝ }
-    ensures { λ r. ⌜ (r ≡ w .own * raisedAt (now (xs .entry)) c u + w .each * sumN (map (raisedAt (now (xs .entry)) c) (weighing rim (now (ring .entry))))) × (r ≤ w .all * (2 * reach)) ⌝ }
+    requires shares { ⌜ Shares rule (length (now ring)) ⌝ }
+    ensures { λ r. ⌜ (r ≡ weightedN rule (raisedAt (now (xs .entry)) c) u (now (ring .entry))) × (r ≤ allOf rule * (2 * reach)) ⌝ }
 {
     let p = at(xs, u, c);
-    let s = weighed_sum(xs, ring, rim, c);
-    w.own * p + w.each * s
+    match rule {
+        Rule::Ring(b) => mix(p, ring_sum(xs, ring, c), ring.len() as u64, b),
+        Rule::Rim(b) => mix(p, ends_sum(xs, ring, c), 2, b),
+    }
 }
 
 // Vertex u by the rule of the stage, from its ring.
@@ -79,12 +79,12 @@ fn ring_over(xs: &[i32], u: usize, ring: &[u32], rim: bool, stage: Stage) -> Ove
     ensures point { λ r. ⌜ Stands r (byRing exact (staged stage) (map ofWhole (now (xs .entry))) u rim (now (ring .entry))) ⌝ }
     ensures den { λ r. ⌜ Ruled (staged stage) r ⌝ }
 {
-    let w = Share::new(stage, rim, ring.len());
+    let rule = Rule::new(stage, rim, ring.len());
     Over3 {
-        x: mix(xs, u, ring, rim, w, 0),
-        y: mix(xs, u, ring, rim, w, 1),
-        z: mix(xs, u, ring, rim, w, 2),
-        den: w.all,
+        x: weighted(xs, u, ring, rule, 0),
+        y: weighted(xs, u, ring, rule, 1),
+        z: weighted(xs, u, ring, rule, 2),
+        den: rule.all(),
     }
 }
 

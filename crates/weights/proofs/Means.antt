@@ -17,16 +17,21 @@ use Rattle.whole.proofs.Reading.{is-sub}
 use Rattle.whole.proofs.Sums.{Raised, raised-add, raised-times, raised-as, rounded-is}
 use Rattle.turns.specs.Turns.{mostValence}
 use Rattle.rules.specs.Position.{Stage, refining, limit, ringRule, rimRule, outOf, sum, whole}
-use Rattle.rules.specs.Levels.{ends, coord}
+use Rattle.rules.specs.Levels.{ends, coord, three}
 use Rattle.rules.proofs.Weights.{ring-adds-up, rim-adds-up}
 use Rattle.weights.specs.Weights.{ruleOf}
 use Rattle.weights.specs.declared.micrometres.Share.{Share}
-use Rattle.weights.specs.Lent.{weighing, weighings, byRing, Stands, sumOf, shareOf, mean, Whole, Fits, Readable}
+use Rattle.weights.specs.declared.micrometres.Whole3.{Whole3}
+use Rattle.weights.specs.Lent.{byRing, Stands3, sumOf, own, shared, mean, means, weighedWhole, weightedWhole, Whole, Shares, Readable}
 
 -- what a contract says of a sum
 pub raised-of : {s w : ℕ} {z : ℤ} → lower w s ≡ z → s ≤ w * (2 * reach) → Raised s w z
 unfolding lower
 raised-of {s} {w} e h = record { same = rw (sym e) (is-sub s (w * reach)); most = h }
+
+-- one raised number, once
+pub once : {s w : ℕ} {z : ℤ} → Raised s w z → Raised (1 * s) w z
+once h = raised-as h (omega arith) refl
 
 -- ---- one more at the end
 sum-more : (l : List ℤ) (x : ℤ) → sum (l ++ (x ∷ [])) ≡ sum l +ℤ x
@@ -36,11 +41,6 @@ sum-more (y ∷ l) x = ap (λ z. y +ℤ z) (sum-more l x) ∙ sym (+ℤ-assoc y 
 -- the first and the last of a ring
 pub ends-are : (vs : List ℕ) → 0 < length vs → ends vs ≡ getD vs 0 0 ∷ getD vs (length vs - 1) 0 ∷ []
 ends-are vs h = ap (λ (k : ℕ). getD vs 0 0 ∷ k ∷ []) (last-at 0 vs h)
-
--- how many have the weight b
-pub length-weighing : {A : Type 0} (f : ℕ → A) (rim : Bool) (vs : List ℕ) → length (map f (weighing rim vs)) ≡ weighings rim (length vs)
-length-weighing f true vs = refl
-length-weighing f false vs = length-map vs f
 
 -- one more of the first i entries of l, by what f gives of each
 pub raised-more : {A : Type 0} (f : A → ℤ) (l : List A) (i : ℕ) (d : A) {s t : ℕ} → i < length l →
@@ -53,13 +53,17 @@ raised-more f l i d h a b =
 pub mean-is : {s d r : ℕ} {z : ℤ} → 0 < d → Raised s d z → r ≡ raise (nearest (lower d s) d) → lower 1 r ≡ nearest z d
 mean-is h k e = rw e (rounded-is h k)
 
--- the vertex p and the sum s of those weighed with it, by their shares
-pub weighed : {w : Share} {k p s : ℕ} {y z : ℤ} → Whole w k → Raised p 1 y → Raised s k z → Raised (w .own * p + w .each * s) (w .all) (pos (w .own) *ℤ y +ℤ pos (w .each) *ℤ z)
-weighed {w} h a b = raised-as (raised-add (raised-times (w .own) a) (raised-times (w .each) b)) refl (omega (arith, h .together))
+-- p with the weight 1 - k b, and with b the sum s of k others
+module _ {b : Share} {k p s : ℕ} (h : Whole b k) (l : p ≤ 2 * reach) (m : s ≤ k * (2 * reach)) where
+  -- it is not large
+  pub blend-fits : own b k * p + b .each * s ≤ b .all * (2 * reach)
+  blend-fits = omega (arith, ap (λ (x : ℕ). x * (2 * reach)) (h .together), mul-le-mul-left (own b k) l, mul-le-mul-left (b .each) m)
 
--- and it is not large
-pub weighed-fits : {w : Share} {k p s : ℕ} → Whole w k → p ≤ 2 * reach → s ≤ k * (2 * reach) → w .own * p + w .each * s ≤ w .all * (2 * reach)
-weighed-fits {w} {k} {p} {s} h l m = omega (arith, ap (λ (x : ℕ). x * (2 * reach)) (h .together), mul-le-mul-left (w .own) l, mul-le-mul-left (w .each) m)
+  pub blend-is : {r : ℕ} → r ≡ raise (nearest (lower (b .all) (own b k * p + b .each * s)) (b .all)) → lower 1 r ≡ mean b k (lower 1 p) (lower k s)
+  blend-is e =
+      mean-is (h .above)
+      (raised-as (raised-add (raised-times (own b k) (raised-of {z = lower 1 p} refl (omega arith))) (raised-times (b .each) (raised-of {z = lower k s} refl m))) refl (omega (arith, h .together)))
+      e
 
 few : (s : Stage) (b : Bool) (n : ℕ) → eqb n 3 ≡ b → n ≤ mostValence → outOf (ringRule s n) ≤ 8 * mostValence
 few refining true n e h = rw e (omega arith)
@@ -72,25 +76,20 @@ few-rim refining = omega arith
 few-rim limit = omega arith
 
 -- the shares of a rule are a whole
-pub shares-whole : (s : Stage) (rim : Bool) (n : ℕ) → 0 < n → n ≤ mostValence → Whole (shareOf (ruleOf s rim n) (weighings rim n)) (weighings rim n)
+pub shares-whole : (s : Stage) (rim : Bool) (n : ℕ) → 0 < n → n ≤ mostValence → Shares (shared (ruleOf s rim n)) n
 shares-whole s true n h k = let a = rim-adds-up s in record { above = a .above; few = few-rim s; together = a .all }
 shares-whole s false n h k = let a = ring-adds-up s n h in record { above = a .above; few = few s (eqb n 3) n refl k; together = a .all }
 
--- so that they fit, and the mean by them is that of the rule
-module _ (s : Stage) (xs : List ℤ) (v : ℕ) (rim : Bool) (vs : List ℕ) {w : Share} (some : 0 < length vs) (few : length vs ≤ mostValence)
-    (e : w ≡ shareOf (ruleOf s rim (length vs)) (weighings rim (length vs))) where
-  all : Whole w (weighings rim (length vs))
-  all = rw e (shares-whole s rim (length vs) some few)
+-- what they give of vertex v and the sum of vs
+pub means-are : (b : Share) (xs : List ℤ) (v : ℕ) (vs : List ℕ) (s : Whole3) → Stands3 s (length vs) (sumOf xs vs) → means b (length vs) xs v s ≡ three whole (weighedWhole b xs v vs)
+means-are b xs v vs s t = rw (t .0 .0, t .1 .0 .0, t .1 .1 .0)
 
-  module _ (c : ℕ) {p q : ℕ} (own : Stands p 1 (coord whole xs c v)) (others : Stands q (weighings rim (length vs)) (sumOf xs (weighing rim vs) c)) where
-    pub fits : Fits w p q
-    fits = record { above = all .above; few = all .few; most = weighed-fits all (own .1) (others .1) }
-
-    pub mean-is-blend : {r : ℕ} → r ≡ raise (nearest (lower (w .all) (w .own * p + w .each * q)) (w .all)) → lower 1 r ≡ byRing whole s xs v rim vs c
-    mean-is-blend h =
-        mean-is (all .above) (weighed all (raised-of (own .0) (own .1)) (raised-of (others .0) (others .1))) h
-        ∙ ap (λ (u : Share). mean u (coord whole xs c v) (map (coord whole xs c) (weighing rim vs))) e
-        ∙ ap (λ (k : ℕ). mean (shareOf (ruleOf s rim (length vs)) k) (coord whole xs c v) (map (coord whole xs c) (weighing rim vs))) (sym (length-weighing (coord whole xs c) rim vs))
+-- and by the rule it is what the rule gives
+pub vertex-whole : (s : Stage) (xs : List ℤ) (v : ℕ) (rim : Bool) (vs : List ℕ) → three whole (weightedWhole (shared (ruleOf s rim (length vs))) xs v vs) ≡ three whole (byRing whole s xs v rim vs)
+vertex-whole s xs v true vs = refl
+vertex-whole s xs v false vs =
+    let e : (c : ℕ) → length (map (coord whole xs c) vs) ≡ length vs = λ c. length-map vs (coord whole xs c) in
+    rw (e 0, e 1, e 2)
 
 pub three-of : {A : Type 0} {a b c x y z : A} → x ≡ a → y ≡ b → z ≡ c → x ∷ y ∷ z ∷ [] ≡ a ∷ b ∷ c ∷ []
 three-of a b c = cc

@@ -13,21 +13,19 @@ use Rattle.vectors.specs.declared.Vec3.{Vec3}
 use Rattle.vectors.specs.Vectors.{origin}
 use Rattle.turns.specs.Turns.{mostValence}
 use Rattle.rules.specs.Position as paper
-use Rattle.rules.specs.Position.{Stage, each, outOf, Numbers, sum, weighed, single, whole}
+use Rattle.rules.specs.Position.{Stage, ringRule, rimRule, each, outOf, Numbers, sum, weighed, single, whole}
 use Rattle.rules.specs.Levels.{ends, coord}
 use Rattle.weights.specs.Weights.{ruleOf, alike}
 use Rattle.weights.specs.declared.Rule.{Rule}
 use Rattle.weights.specs.declared.Rule.the-variants.{Ring, Rim}
+use Rattle.weights.specs.declared.micrometres.Rule as wholes
+use Rattle.weights.specs.declared.micrometres.Rule.the-variants.{Ring as RingShare, Rim as RimShare}
 use Rattle.weights.specs.declared.micrometres.Share.{Share}
 use Rattle.weights.specs.declared.micrometres.Whole3.{Whole3}
 
 -- those of a ring that have the weight b: all of them, or on the rim the first and the last
 abbrev pub weighing : Bool → List ℕ → List ℕ
 weighing rim vs = pick rim (ends vs) vs
-
--- how many they are
-abbrev pub weighings : Bool → ℕ → ℕ
-weighings rim n = pick rim 2 n
 
 module _ (𝓝 : Numbers) where
   -- coordinate c of vertex v, by its ring
@@ -98,28 +96,54 @@ Stands3 p w f = Stands (p .x) w (f 0) × (Stands (p .y) w (f 1) × Stands (p .z)
 abbrev pub sumOf : List ℤ → List ℕ → ℕ → ℤ
 sumOf xs vs c = sum (map (coord whole xs c) vs)
 
--- b = k / d on each of n, and 1 - n b
-abbrev pub sharing : ℕ → ℕ → ℕ → Share
-sharing n k d = record { own = d - n * k; each = k; all = d }
+-- the weight b of a rule, as a fraction
+abbrev pub shareOf : paper.Rule → Share
+shareOf r = record { each = each r; all = outOf r }
 
-abbrev pub shareOf : paper.Rule → ℕ → Share
-shareOf r n = sharing n (each r) (outOf r)
+-- "A vertex rule is either a ring weight or a rim weight, and carries it"
+abbrev pub shared : paper.Rule → wholes.Rule
+shared (ringRule s n) = RingShare (shareOf (ringRule s n))
+shared (rimRule s) = RimShare (shareOf (rimRule s))
 
--- the mean of p and qs by their shares
-abbrev pub mean : Share → ℤ → List ℤ → ℤ
-mean w p qs = nearest (pos (w .own) *ℤ p +ℤ pos (w .each) *ℤ sum qs) (w .all)
+abbrev pub allOf : wholes.Rule → ℕ
+allOf (RingShare b) = b .all
+allOf (RimShare b) = b .all
 
--- the shares of n beside one add up, to few enough
-pub record Whole (w : Share) (n : ℕ) : Type 0 where
-  pub above : 0 < w .all
-  pub few : w .all ≤ 8 * mostValence
-  pub together : w .own + n * w .each ≡ w .all
+-- 1 - k b, out of the same
+abbrev pub own : Share → ℕ → ℕ
+own b k = b .all - k * b .each
 
--- raised p and s, by those shares, come to no more than one raised number by the whole
-pub record Fits (w : Share) (p s : ℕ) : Type 0 where
-  pub above : 0 < w .all
-  pub few : w .all ≤ 8 * mostValence
-  pub most : w .own * p + w .each * s ≤ w .all * (2 * reach)
+-- p with that weight, and with b the sum s of k others
+abbrev pub mean : Share → ℕ → ℤ → ℤ → ℤ
+mean b k p s = nearest (pos (own b k) *ℤ p +ℤ pos (b .each) *ℤ s) (b .all)
+
+-- vertex v, and k others whose raised sum is s
+abbrev pub means : Share → ℕ → List ℤ → ℕ → Whole3 → List ℤ
+means b k xs v s =
+    mean b k (coord whole xs 0 v) (lower k (s .x)) ∷ mean b k (coord whole xs 1 v) (lower k (s .y)) ∷ mean b k (coord whole xs 2 v) (lower k (s .z)) ∷ []
+
+-- vertex v, and vs with the weight b
+abbrev pub weighedWhole : Share → List ℤ → ℕ → List ℕ → ℕ → ℤ
+weighedWhole b xs v vs c = mean b (length vs) (coord whole xs c v) (sumOf xs vs c)
+
+abbrev pub weightedWhole : wholes.Rule → List ℤ → ℕ → List ℕ → ℕ → ℤ
+weightedWhole (RingShare b) xs v vs c = weighedWhole b xs v vs c
+weightedWhole (RimShare b) xs v vs c = weighedWhole b xs v (ends vs) c
+
+-- k times b and 1 - k b add up, to few enough
+pub record Whole (b : Share) (k : ℕ) : Type 0 where
+  pub above : 0 < b .all
+  pub few : b .all ≤ 8 * mostValence
+  pub together : own b k + k * b .each ≡ b .all
+
+-- so do those of a rule, over a ring of n
+abbrev pub Shares : wholes.Rule → ℕ → Type 0
+Shares (RingShare b) n = Whole b n
+Shares (RimShare b) n = Whole b 2
+
+-- sums of k raised numbers
+abbrev pub Few3 : Whole3 → ℕ → Type 0
+Few3 s k = (s .x ≤ k * (2 * reach)) × ((s .y ≤ k * (2 * reach)) × (s .z ≤ k * (2 * reach)))
 
 -- what a point of raised coordinates stands for
 abbrev pub lowered : Whole3 → List ℤ

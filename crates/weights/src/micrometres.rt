@@ -11,65 +11,120 @@ ghost use Prim.Native.Nat.{_+_, _*_, _<_, _≤_};
 ghost use lib.ListN.{length};
 ghost use lib.Seq.{sets};
 ghost use Rattle.turns.specs.Turns.{mostValence};
-ghost use Rattle.rules.specs.Position.{refining, limit, whole};
+ghost use Rattle.rules.specs.Position.{refining, limit, ringRule, whole};
 ghost use Rattle.rules.specs.Levels.{ends, coord, three};
 ghost use Rattle.weights.specs.Weights.{staged, ruleOf};
-ghost use Rattle.weights.specs.Lent.{weighing, weighings, byRing, halfway, eighthway, onRim, within, Readable, AllReadable, Stands, Stands3, sumOf, sharing, shareOf, Fits, lowered, Raised3};
-ghost use Rattle.whole.specs.Whole.{reach, nearest, raise, lower as lowerBy};
+ghost use Rattle.weights.specs.Lent.{byRing, halfway, eighthway, onRim, within, Readable, AllReadable, Stands, Stands3, sumOf, shareOf, shared, allOf, own, mean, means, weightedWhole, Whole, Shares, Few3, lowered, Raised3};
+ghost use Rattle.whole.specs.Whole.{reach, lower as lowerBy};
 
-// The weights of a vertex rule out of one whole: the vertex's own, and that of each in its ring, or of its first and its last.
+// A weight as a fraction of one whole: `each` out of `all`.
 pub struct Share {
-    pub own: u64,
     pub each: u64,
     pub all: u64,
 }
 
-impl Share {
-    // b = each / all on each of k, and what is left on the vertex itself.
-    fn of(k: u64, each: u64, all: u64) -> Share
-        requires { ⌜ (k ≤ mostValence) × ((each ≤ 3) × (k * each ≤ all)) ⌝ }
-        ensures { λ r. ⌜ r ≡ sharing k each all ⌝ }
-    {
-        Share {
-            own: all - k * each,
-            each,
-            all,
-        }
-    }
+// A vertex rule: a weight on each point of the ring, or on its first and its last.
+pub enum Rule {
+    Ring(Share),
+    Rim(Share),
+}
 
-    fn refining(rim: bool, n: usize) -> Share
-        requires { ⌜ n ≤ mostValence ⌝ }
-        ensures { λ r. ⌜ r ≡ shareOf (ruleOf refining rim n) (weighings rim n) ⌝ }
-    {
-        if rim {
-            Share::of(2, 1, 8)
-        } else if n == 3 {
-            Share::of(3, 3, 16)
-        } else {
-            Share::of(n as u64, 3, 8 * n as u64)
-        }
-    }
+impl Rule {
+    pub const VALENCE_THREE: Share = Share { each: 3, all: 16 };
 
-    fn limit(rim: bool, n: usize) -> Share
+    pub const VALENCE_THREE_LIMIT: Share = Share { each: 1, all: 5 };
+
+    pub const RIM_REFINING: Share = Share { each: 1, all: 8 };
+
+    pub const RIM_LIMIT: Share = Share { each: 1, all: 6 };
+
+    pub const EDGE_RIM: Share = Share { each: 1, all: 2 };
+
+    pub const EDGE_END: Share = Share { each: 3, all: 8 };
+
+    pub const EDGE_FAR: Share = Share { each: 1, all: 8 };
+
+    fn refining(rim: bool, n: usize) -> Rule
         requires { ⌜ n ≤ mostValence ⌝ }
-        ensures { λ r. ⌜ r ≡ shareOf (ruleOf limit rim n) (weighings rim n) ⌝ }
+        ensures { λ r. ⌜ r ≡ shared (ruleOf refining rim n) ⌝ }
     {
         if rim {
-            Share::of(2, 1, 6)
-        } else if n == 3 {
-            Share::of(3, 1, 5)
+            Rule::Rim(Rule::RIM_REFINING)
         } else {
-            Share::of(n as u64, 1, 2 * n as u64)
+            Rule::Ring(beta(n))
         }
     }
 
-    pub fn new(stage: Stage, rim: bool, n: usize) -> Share
+    fn limit(rim: bool, n: usize) -> Rule
         requires { ⌜ n ≤ mostValence ⌝ }
-        ensures { λ r. ⌜ r ≡ shareOf (ruleOf (staged stage) rim n) (weighings rim n) ⌝ }
+        ensures { λ r. ⌜ r ≡ shared (ruleOf limit rim n) ⌝ }
+    {
+        if rim {
+            Rule::Rim(Rule::RIM_LIMIT)
+        } else {
+            Rule::Ring(loop_gamma(n))
+        }
+    }
+
+    pub fn new(stage: Stage, rim: bool, n: usize) -> Rule
+        requires { ⌜ n ≤ mostValence ⌝ }
+        ensures { λ r. ⌜ r ≡ shared (ruleOf (staged stage) rim n) ⌝ }
     {
         match stage {
-            Stage::Refining => Share::refining(rim, n),
-            Stage::Limit => Share::limit(rim, n),
+            Stage::Refining => Rule::refining(rim, n),
+            Stage::Limit => Rule::limit(rim, n),
+        }
+    }
+
+    // What the weight is out of.
+    pub fn all(self) -> u64
+        ensures { λ r. ⌜ r ≡ allOf self ⌝ }
+    {
+        match self {
+            Rule::Ring(b) => b.all,
+            Rule::Rim(b) => b.all,
+        }
+    }
+
+    // Vertex v, by its ring.
+    fn weighted(self, xs: &[i32], v: VertNo, ring: &[u32]) -> Whole3
+        requires { ⌜ Readable (now xs) (v .0) × ((0 < length (now ring)) × AllReadable (now xs) (now ring)) ⌝ }
+        requires { ⌜ Shares self (length (now ring)) ⌝ }
+        ensures point { λ r. ⌜ lowered r ≡ three whole (weightedWhole self (now (xs .entry)) (v .0) (now (ring .entry))) ⌝ }
+        ensures near { λ r. ⌜ Raised3 r ⌝ }
+    {
+        match self {
+            Rule::Ring(b) => blend3(xs, v, ring_sum(xs, ring), ring.len() as u64, b),
+            Rule::Rim(b) => blend3(xs, v, boundary_sum(xs, ring), 2, b),
+        }
+    }
+}
+
+fn beta(n: usize) -> Share
+    requires { ⌜ n ≤ mostValence ⌝ }
+    ensures { λ r. ⌜ r ≡ shareOf (ringRule refining n) ⌝ }
+{
+    if n == 3 {
+        Rule::VALENCE_THREE
+    } else {
+        Share {
+            each: 3,
+            all: 8 * n as u64,
+        }
+    }
+}
+
+// 1/(n + 3/(8 beta)) comes to this.
+fn loop_gamma(n: usize) -> Share
+    requires { ⌜ n ≤ mostValence ⌝ }
+    ensures { λ r. ⌜ r ≡ shareOf (ringRule limit n) ⌝ }
+{
+    if n == 3 {
+        Rule::VALENCE_THREE_LIMIT
+    } else {
+        Share {
+            each: 1,
+            all: 2 * n as u64,
         }
     }
 }
@@ -132,24 +187,34 @@ fn boundary_sum(xs: &[i32], ring: &[u32]) -> Whole3
     }
 }
 
-// Those that have the weight b.
-fn weighed_sum(xs: &[i32], ring: &[u32], rim: bool) -> Whole3
-    requires { ⌜ (0 < length (now ring)) × AllReadable (now xs) (now ring) ⌝ }
-    ensures { λ r. ⌜ Stands3 r (weighings rim (length (now (ring .entry)))) (sumOf (now (xs .entry)) (weighing rim (now (ring .entry)))) ⌝ }
+// p with the weight 1 - k b, and with b the sum s of k others, out of the whole of b.
+pub fn mix(p: u64, s: u64, k: u64, b: Share) -> u64
+    requires { ⌜ Whole b k × ((p ≤ 2 * reach) × (s ≤ k * (2 * reach))) ⌝ }
+    ensures { λ r. ⌜ (r ≡ own b k * p + b .each * s) × (r ≤ b .all * (2 * reach)) ⌝ }
 {
-    if rim {
-        boundary_sum(xs, ring)
-    } else {
-        ring_sum(xs, ring)
-    }
+    let own = b.all - k * b.each;
+    own * p + b.each * s
 }
 
-// p is the vertex's own coordinate, s the sum of those weighed with it.
-fn weighted(p: u64, s: u64, w: Share) -> u64
-    requires { ⌜ Fits w p s ⌝ }
-    ensures { λ r. ⌜ (r ≡ raise (nearest (lowerBy (w .all) (w .own * p + w .each * s)) (w .all))) × (r ≤ 2 * reach) ⌝ }
+// The same, rounded.
+fn blend(p: u64, s: u64, k: u64, b: Share) -> u64
+    requires { ⌜ Whole b k × ((p ≤ 2 * reach) × (s ≤ k * (2 * reach))) ⌝ }
+    ensures { λ r. ⌜ Stands r 1 (mean b k (lowerBy 1 p) (lowerBy k s)) ⌝ }
 {
-    rounded(w.own * p + w.each * s, w.all)
+    rounded(mix(p, s, k, b), b.all)
+}
+
+// Coordinate by coordinate, vertex v and the sum of k others.
+fn blend3(xs: &[i32], v: VertNo, s: Whole3, k: u64, b: Share) -> Whole3
+    requires { ⌜ Readable (now xs) (v .0) × (Whole b k × Few3 s k) ⌝ }
+    ensures point { λ r. ⌜ lowered r ≡ means b k (now (xs .entry)) (v .0) s ⌝ }
+    ensures near { λ r. ⌜ Raised3 r ⌝ }
+{
+    Whole3 {
+        x: blend(at(xs, v, 0), s.x, k, b),
+        y: blend(at(xs, v, 1), s.y, k, b),
+        z: blend(at(xs, v, 2), s.z, k, b),
+    }
 }
 
 // Vertex v by the rule of the stage, from its ring.
@@ -158,20 +223,15 @@ pub fn vertex(xs: &[i32], v: VertNo, ring: &[u32], rim: bool, stage: Stage) -> W
     ensures point { λ r. ⌜ lowered r ≡ three whole (byRing whole (staged stage) (now (xs .entry)) (v .0) rim (now (ring .entry))) ⌝ }
     ensures near { λ r. ⌜ Raised3 r ⌝ }
 {
-    let w = Share::new(stage, rim, ring.len());
-    let s = weighed_sum(xs, ring, rim);
-    Whole3 {
-        x: weighted(at(xs, v, 0), s.x, w),
-        y: weighted(at(xs, v, 1), s.y, w),
-        z: weighted(at(xs, v, 2), s.z, w),
-    }
+    Rule::new(stage, rim, ring.len()).weighted(xs, v, ring)
 }
 
 fn half(xs: &[i32], a: VertNo, b: VertNo, c: usize) -> u64
     requires { ⌜ (c < 3) × (Readable (now xs) (a .0) × Readable (now xs) (b .0)) ⌝ }
     ensures { λ r. ⌜ Stands r 1 (halfway whole (now (xs .entry)) (a .0) (b .0) c) ⌝ }
 {
-    rounded(at(xs, a, c) + at(xs, b, c), 2)
+    let w = Rule::EDGE_RIM;
+    rounded(w.each * at(xs, a, c) + w.each * at(xs, b, c), w.all)
 }
 
 fn eighths(xs: &[i32], a: VertNo, b: VertNo, d: VertNo, e: VertNo, c: usize) -> u64
@@ -179,9 +239,12 @@ fn eighths(xs: &[i32], a: VertNo, b: VertNo, d: VertNo, e: VertNo, c: usize) -> 
     requires { ⌜ Readable (now xs) (d .0) × Readable (now xs) (e .0) ⌝ }
     ensures { λ r. ⌜ Stands r 1 (eighthway whole (now (xs .entry)) (a .0) (b .0) (d .0) (e .0) c) ⌝ }
 {
+    let end = Rule::EDGE_END;
+    let far = Rule::EDGE_FAR;
+    let ends = end.each * at(xs, a, c) + end.each * at(xs, b, c);
     rounded(
-        3 * at(xs, a, c) + 3 * at(xs, b, c) + at(xs, d, c) + at(xs, e, c),
-        8,
+        ends + far.each * at(xs, d, c) + far.each * at(xs, e, c),
+        end.all,
     )
 }
 
