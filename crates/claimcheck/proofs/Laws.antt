@@ -17,8 +17,8 @@ use Rattle.lists.proofs.Places.{taken}
 use Rattle.lists.proofs.Stores.{part-of}
 use Rattle.rules.specs.Sheets.{wordAt, badSheet, sheetLevels, sheetIndices, sheetCoords, sheetOutcome, cutRooms, mostInput}
 use Rattle.listing.specs.Text.{Put, meshText}
-use Rattle.sheet.specs.Reading.{sheetOf}
-use Rattle.sheet.specs.declared.Sheet.the-variants as sheet
+use Rattle.reader.specs.Reading.{sheetOf}
+use Rattle.reader.specs.declared.Sheet.the-variants as sheet
 use Rattle.station.specs.Acceptance.{verdict}
 use Rattle.station.specs.declared.Verdict.{Verdict}
 use Rattle.claimcheck.specs.Output.{Claim, rimsOf, withRims, claimVerdict, claimText, Heard, Judged, sheetIn, listingIn, early}

@@ -6,16 +6,16 @@ ghost use lib.ListN.{length};
 ghost use Rattle.rules.specs.Calls.{given};
 ghost use Rattle.rules.specs.Sheets.{sheetLevels, sheetIndices, sheetCoords, sheetOutcome, cutRooms};
 ghost use Rattle.listing.specs.Text.{Put, meshText, refusedText};
-ghost use Rattle.sheet.specs.Reading.{sheetOf as trailerOf};
+ghost use Rattle.reader.specs.Reading.{sheetOf as trailerOf};
 ghost use Rattle.station.specs.Acceptance.{verdict};
 ghost use Rattle.claimcheck.specs.Output.{verdictText, unreadableText, rimsOf, withRims, claimVerdict, claimText, Heard, Judged, Spoken};
 use libc::STDERR_FILENO;
 use libc::STDIN_FILENO;
 use libc::STDOUT_FILENO;
+use reader::Sheet;
 use rules::Counts;
 use rules::Outcome;
 use rules::Refusal;
-use sheet::Sheet;
 use station::Fault;
 use station::Verdict;
 
@@ -304,10 +304,10 @@ fn held(
 {
     let nc = 3 * vertices;
     let mut coords = [0i32; 8192];
-    sheet::coords_from(sheet::vertex_block(bytes), nc, &mut coords);
+    reader::coords_from(reader::vertex_block(bytes), nc, &mut coords);
     let nw = 3 * faces;
     let mut indices = [0u32; 8192];
-    sheet::words_from(sheet::face_block(bytes), nw, &mut indices);
+    reader::words_from(reader::face_block(bytes), nw, &mut indices);
     let mut positions = [0i32; 1536];
     let mut out = [0u32; 1536];
     let mut words = [0u32; 12288];
@@ -375,7 +375,7 @@ fn checked(input: &[u8], said: &mut [u8]) -> usize
     if n < 8 {
         return refused(15, said);
     }
-    let long = sheet::word_at(input, 4) as usize;
+    let long = reader::word_at(input, 4) as usize;
     if long > 32768 {
         return refused(16, said);
     }
@@ -383,8 +383,8 @@ fn checked(input: &[u8], said: &mut [u8]) -> usize
     if n < end {
         return refused(15, said);
     }
-    let t = sheet::word_at(input, 0);
-    match sheet::read_sheet(&input[8..end]) {
+    let t = reader::word_at(input, 0);
+    match reader::read_sheet(&input[8..end]) {
         Sheet::Refused => refused(15, said),
         Sheet::Is {
             vertices,

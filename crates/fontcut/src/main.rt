@@ -125,7 +125,7 @@ fn cut(input: &[u8], text: &mut [u8]) -> usize
     if n < 4 {
         return refused(19, text);
     }
-    let sheets = sheet::word_at(input, 0) as usize;
+    let sheets = reader::word_at(input, 0) as usize;
     if sheets > 64 {
         return refused(19, text);
     }
@@ -134,7 +134,7 @@ fn cut(input: &[u8], text: &mut [u8]) -> usize
         return refused(19, text);
     }
     let mut lengths = [0u32; 64];
-    sheet::words_from(&input[4..], sheets, &mut lengths);
+    reader::words_from(&input[4..], sheets, &mut lengths);
     batch(&input[start..], &lengths[..sheets], text)
 }
 

@@ -28,10 +28,10 @@ fn lists(bytes: &[u8], nc: usize, ni: usize, levels: u32, out: &mut [u8]) -> Wri
     ensures { λ r. ⌜ WriteCall levels (wordsOf (drop (12 + 4 * nc) (given bytes)) ni) (coordsOf (drop 12 (given bytes)) nc) (lent out) r ⌝ }
 {
     let mut coords = [0i32; 12288];
-    sheet::coords_from(&bytes[12..], nc, &mut coords);
+    reader::coords_from(&bytes[12..], nc, &mut coords);
     let mut corners = [0u32; 12288];
     let at = 12 + 4 * nc;
-    sheet::words_from(&bytes[at..], ni, &mut corners);
+    reader::words_from(&bytes[at..], ni, &mut corners);
     writer::write_sheet(levels, &corners[..ni], &coords[..nc], out)
 }
 
@@ -46,9 +46,9 @@ fn made(bytes: &[u8], out: &mut [u8]) -> Written
     if n < 12 {
         return refused(15);
     }
-    let levels = sheet::word_at(bytes, 0);
-    let nc = sheet::word_at(bytes, 4) as usize;
-    let ni = sheet::word_at(bytes, 8) as usize;
+    let levels = reader::word_at(bytes, 0);
+    let nc = reader::word_at(bytes, 4) as usize;
+    let ni = reader::word_at(bytes, 8) as usize;
     if n != 12 + 4 * nc + 4 * ni {
         return refused(15);
     }

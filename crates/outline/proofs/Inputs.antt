@@ -21,8 +21,8 @@ use Rattle.loopsubdiv.proofs.Outcomes.{Done, done, whole-room}
 use Rattle.outlines.specs.Loops.{listing, loopsOf, outlineOf, outlineOutcome}
 use Rattle.outlines.proofs.Answered.{listed-below, succeeded}
 use Rattle.listing.specs.Text.{refusedText}
-use Rattle.sheet.specs.Reading.{sheetOf}
-use Rattle.sheet.specs.declared.Sheet.the-variants as sheet
+use Rattle.reader.specs.Reading.{sheetOf}
+use Rattle.reader.specs.declared.Sheet.the-variants as sheet
 use Rattle.outline.specs.Output.{outlinesLine, listRoom, cageText, refusedBy, outlineText, entryTexts, Vertices}
 use Rattle.outline.proofs.Lines.{listing-text, listing-vertices, same-text, front-line}
 

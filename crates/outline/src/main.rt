@@ -5,7 +5,7 @@ ghost use Prim.Native.Nat.{_+_, _*_, _≤_};
 ghost use lib.ListN.{length};
 ghost use Rattle.rules.specs.Calls.{given};
 ghost use Rattle.rules.specs.Sheets.{sheetLevels, sheetIndices, sheetCoords};
-ghost use Rattle.sheet.specs.Reading.{sheetOf};
+ghost use Rattle.reader.specs.Reading.{sheetOf};
 ghost use Rattle.listing.specs.Text.{Put};
 ghost use Rattle.outline.specs.Output.{outlinesLine, loopLine, entryText, leftAfter, entryTexts, Vertices, cageText, refusedBy, outlineText};
 use libc::STDERR_FILENO;
@@ -13,8 +13,8 @@ use libc::STDIN_FILENO;
 use libc::STDOUT_FILENO;
 use outlines::Outline;
 use outlines::Traced;
+use reader::Sheet;
 use rules::Refusal;
-use sheet::Sheet;
 
 fn outlines_line(text: &mut [u8], o: Outline) -> usize
     requires { ⌜ 51 ≤ length (now text) ⌝ }
@@ -111,10 +111,10 @@ fn lists(bytes: &[u8], vertices: usize, faces: usize, levels: u32, text: &mut [u
 {
     let nc = 3 * vertices;
     let mut coords = [0i32; 8192];
-    sheet::coords_from(sheet::vertex_block(bytes), nc, &mut coords);
+    reader::coords_from(reader::vertex_block(bytes), nc, &mut coords);
     let nw = 3 * faces;
     let mut corners = [0u32; 8192];
-    sheet::words_from(sheet::face_block(bytes), nw, &mut corners);
+    reader::words_from(reader::face_block(bytes), nw, &mut corners);
     cage(levels, &corners[..nw], &coords[..nc], text)
 }
 
@@ -140,7 +140,7 @@ fn trace(bytes: &[u8], text: &mut [u8]) -> usize
     if bytes.len() > 32768 {
         return refused(16, text);
     }
-    match sheet::read_sheet(bytes) {
+    match reader::read_sheet(bytes) {
         Sheet::Refused => refused(15, text),
         Sheet::Is {
             vertices,

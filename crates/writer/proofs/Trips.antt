@@ -19,8 +19,8 @@ use Rattle.rules.specs.Answers.{outcome}
 use Rattle.rules.specs.Sheets.{wordAt, signed, wordsOf, coordsOf, trailer, sheetVerts, sheetFaces, sheetLevels, badSheet, vertexBlock, faceBlock, sheetIndices, sheetCoords, sheetOutcome, bytesOf, unsigned, sheetBytes}
 use Rattle.rules.specs.declared.Counts.{Counts}
 use Rattle.rules.proofs.Checks.{check-none, or-none, range-of}
-use Rattle.sheet.proofs.Laws.{good-length}
-use Rattle.sheet.proofs.Calls.{read-outcome}
+use Rattle.reader.proofs.Laws.{good-length}
+use Rattle.reader.proofs.Read.{read-outcome}
 use Rattle.writer.proofs.Back.{signed-back, unsigned-back}
 use Rattle.writer.proofs.Lists.{Words, Bytes, word-past, word-at, words-back, blocks-back}
 use Rattle.writer.proofs.Puts.{bytes-long, coords-long}

@@ -3,10 +3,10 @@ use Prim.Native.Nat.{_+_, _-_}
 use mathlib.Core.Path.{_≡_, sym, _∙_}
 use native.Mathlib.Omega.{arith}
 use lib.ListN.{take, drop}
-use Rattle.sheet.specs.Reading.{sheetOf}
-use Rattle.sheet.specs.declared.Sheet.the-variants.{Is}
-use Rattle.sheet.proofs.Laws.{good-length}
-use Rattle.sheet.proofs.Calls.{read}
+use Rattle.reader.specs.Reading.{sheetOf}
+use Rattle.reader.specs.declared.Sheet.the-variants.{Is}
+use Rattle.reader.proofs.Laws.{good-length}
+use Rattle.reader.proofs.Read.{read}
 use Rattle.claimcheck.specs.Output.{sheetIn, refused, judged}
 use Rattle.claimcheck.proofs.Laws.{short, early-none, early-long, early-cut, early-bad, early-good, sheet-part, listing-part, bad-of}
 use borrow.Author.Needs.{needs}

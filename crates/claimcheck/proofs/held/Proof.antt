@@ -5,7 +5,7 @@ use native.Mathlib.Omega.{arith}
 use lib.ListN.{take}
 use lib.Seq.{length-take-le}
 use Rattle.rules.specs.Sheets.{wordAt, signed, vertexBlock, faceBlock, sheetIndices, sheetCoords}
-use Rattle.sheet.proofs.Calls.{Read, read, vertex-bytes, face-bytes, decoded}
+use Rattle.reader.proofs.Read.{Read, read, vertex-bytes, face-bytes, decoded}
 use borrow.Author.Needs.{needs}
 use Rattle.claimcheck.proofs.held.Statement.{statement}
 use Rattle.claimcheck.proofs.held.Tie as tie

@@ -5,7 +5,7 @@ use native.Mathlib.Omega.{arith}
 use lib.ListN.{take, drop, length-replicate}
 use lib.Seq.{length-take-le}
 use Rattle.rules.specs.Sheets.{wordAt}
-use Rattle.sheet.proofs.Calls.{decoded}
+use Rattle.reader.proofs.Read.{decoded}
 use Rattle.fontcut.specs.Output.{lengthsOf}
 use Rattle.fontcut.proofs.Along.{rest}
 use Rattle.fontcut.proofs.Head.{over, no-count, too-many, no-lengths, by-sheets}

@@ -5,7 +5,7 @@ use native.Mathlib.Omega.{arith}
 use lib.ListN.{take, drop}
 use lib.Seq.{length-take-le}
 use Rattle.rules.specs.Sheets.{wordAt, signed, wordsOf, coordsOf}
-use Rattle.sheet.proofs.Calls.{decoded}
+use Rattle.reader.proofs.Read.{decoded}
 use Rattle.makesheet.proofs.Laws.{rest}
 use borrow.Author.Needs.{needs}
 use Rattle.makesheet.proofs.lists.Statement.{statement}

@@ -5,8 +5,8 @@ use native.Mathlib.Omega.{arith}
 use lib.ListN.{take}
 use lib.Seq.{length-take-le}
 use Rattle.rules.specs.Sheets.{wordAt, signed, vertexBlock, faceBlock, sheetIndices, sheetCoords}
-use Rattle.sheet.proofs.Laws.{good-length}
-use Rattle.sheet.proofs.Calls.{Read, read, vertex-bytes, face-bytes, decoded}
+use Rattle.reader.proofs.Laws.{good-length}
+use Rattle.reader.proofs.Read.{Read, read, vertex-bytes, face-bytes, decoded}
 use borrow.Author.Needs.{needs}
 use Rattle.outline.proofs.lists.Statement.{statement}
 use Rattle.outline.proofs.lists.Tie as tie

@@ -1,8 +1,8 @@
 use denote.Ref.{now}
 use mathlib.Core.Path.{_≡_, sym, _∙_}
-use Rattle.sheet.specs.Reading.{sheetOf}
-use Rattle.sheet.specs.declared.Sheet.the-variants.{Is}
-use Rattle.sheet.proofs.Calls.{read}
+use Rattle.reader.specs.Reading.{sheetOf}
+use Rattle.reader.specs.declared.Sheet.the-variants.{Is}
+use Rattle.reader.proofs.Read.{read}
 use Rattle.outline.proofs.Inputs.{over, no-sheet, by-sheet, refused-is}
 use borrow.Author.Needs.{needs}
 use Rattle.outline.proofs.trace.Statement.{statement}

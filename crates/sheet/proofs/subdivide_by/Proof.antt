@@ -9,10 +9,10 @@ use Rattle.rules.specs.declared.Refusal.{Refusal}
 use Rattle.rules.proofs.Checks.{shape-of}
 use Rattle.limits.specs.Verdicts.{verdictOf}
 use Rattle.limits.proofs.Search.{passes}
-use Rattle.sheet.specs.Reading.{sheetOf}
-use Rattle.sheet.specs.declared.Sheet.the-variants.{Is}
+use Rattle.reader.specs.Reading.{sheetOf}
+use Rattle.reader.specs.declared.Sheet.the-variants.{Is}
 use Rattle.limits.specs.declared.Check.the-variants.{Pass, No}
-use Rattle.sheet.proofs.Calls.{read, refused-15, refused-shape}
+use Rattle.reader.proofs.Read.{read, refused-15, refused-shape}
 use borrow.Author.Needs.{needs}
 use Rattle.sheet.proofs.subdivide_by.Statement.{statement}
 use Rattle.sheet.proofs.subdivide_by.Tie as tie

@@ -6,7 +6,7 @@ use lib.ListN.{length, take}
 use lib.Seq.{length-take-le}
 use Rattle.rules.specs.Answers.{wholeRooms}
 use Rattle.rules.specs.Sheets.{wordAt, signed, vertexBlock, faceBlock, sheetIndices, sheetCoords}
-use Rattle.sheet.proofs.Calls.{Read, read, vertex-bytes, face-bytes, decoded, read-outcome}
+use Rattle.reader.proofs.Read.{Read, read, vertex-bytes, face-bytes, decoded, read-outcome}
 use borrow.Author.Needs.{needs}
 use Rattle.sheet.proofs.subdivide_lists.Statement.{statement}
 use Rattle.sheet.proofs.subdivide_lists.Tie as tie

@@ -2,11 +2,11 @@ use denote.Ref.{now}
 use mathlib.Core.Path.{_≡_, sym, ap, _∙_}
 use native.Mathlib.Omega.{arith}
 use lib.Seq.{length-take-le}
-use Rattle.sheet.specs.Reading.{vertexBytes, sheetOf}
-use Rattle.sheet.proofs.Laws.{bytes-within, vertices-are}
+use Rattle.reader.specs.Reading.{vertexBytes, sheetOf}
+use Rattle.reader.proofs.Laws.{bytes-within, vertices-are}
 use borrow.Author.Needs.{needs}
-use Rattle.sheet.proofs.vertex_block.Statement.{statement}
-use Rattle.sheet.proofs.vertex_block.Tie as tie
+use Rattle.reader.proofs.vertex_block.Statement.{statement}
+use Rattle.reader.proofs.vertex_block.Tie as tie
 
 read-sheet-requires : tie.Need-read-sheet-requires
 read-sheet-requires c κs = search needs

@@ -1,11 +1,11 @@
 use denote.Ref.{now}
 use borrow.Author.Tests.{lt-ltb, le-ltb, eq-eqb, ne-eqb}
 use mathlib.Core.Path.{sym, _∙_}
-use Rattle.sheet.proofs.Laws.{first-word}
-use Rattle.sheet.specs.Reading.{sheetOf}
+use Rattle.reader.proofs.Laws.{first-word}
+use Rattle.reader.specs.Reading.{sheetOf}
 use borrow.Author.Needs.{needs}
-use Rattle.sheet.proofs.read_sheet.Statement.{statement}
-use Rattle.sheet.proofs.read_sheet.Tie as tie
+use Rattle.reader.proofs.read_sheet.Statement.{statement}
+use Rattle.reader.proofs.read_sheet.Tie as tie
 
 returns : tie.Need-returns
 unfolding sheetOf

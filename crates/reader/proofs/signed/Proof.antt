@@ -6,10 +6,10 @@ use lib.IntN.{negsuc, _-ℤ_}
 use mir.Syntax.{w32}
 use mir.ValLaws.{toZ-ofZ, toZ-pos}
 use mir.Val.{toZ, ofZ, SFits}
-use Rattle.sheet.proofs.Laws.{minus-one}
+use Rattle.reader.proofs.Laws.{minus-one}
 use borrow.Author.Needs.{needs}
-use Rattle.sheet.proofs.signed.Statement.{statement}
-use Rattle.sheet.proofs.signed.Tie as tie
+use Rattle.reader.proofs.signed.Statement.{statement}
+use Rattle.reader.proofs.signed.Tie as tie
 
 cast-result : tie.Need-cast-result
 cast-result c = search needs

@@ -1,6 +1,6 @@
 use borrow.Author.Needs.{needs}
-use Rattle.sheet.proofs.face_bytes.Statement.{statement}
-use Rattle.sheet.proofs.face_bytes.Tie as tie
+use Rattle.reader.proofs.vertex_bytes.Statement.{statement}
+use Rattle.reader.proofs.vertex_bytes.Tie as tie
 
 enum-known-s : tie.Need-enum-known-s
 enum-known-s c = search needs
@@ -20,6 +20,6 @@ returns c = rw (c .before .s .given .1)
 returns-2 : tie.Need-returns-2
 returns-2 c = search needs
 
-pub face-bytes-spec : {M : Type 1} → statement M
-face-bytes-spec =
+pub vertex-bytes-spec : {M : Type 1} → statement M
+vertex-bytes-spec =
     tie.close (tie.spec enum-known-s cast-result mul-result enum-told returns returns-2)

@@ -7,9 +7,9 @@ use lib.ListN.{length, length-set}
 use lib.Seq.{sets}
 use Rattle.rules.specs.Sheets.{wordAt, wordsOf}
 use Rattle.lists.specs.Lists.{rows}
-use Rattle.sheet.proofs.Laws.{one-more}
-use Rattle.sheet.proofs.words_from.Statement.{statement}
-use Rattle.sheet.proofs.words_from.Tie as tie
+use Rattle.reader.proofs.Laws.{one-more}
+use Rattle.reader.proofs.words_from.Statement.{statement}
+use Rattle.reader.proofs.words_from.Tie as tie
 
 abbrev Inv-loop : tie.InvT-loop
 Inv-loop b n s₀ k₀ s k = (k ≤ n) × ((length s ≡ length s₀) × (s ≡ sets s₀ 0 (wordsOf b k)))

@@ -9,9 +9,9 @@ use mir.Syntax.{w32}
 use mir.ValLaws.{toZ-ofZ}
 use Rattle.rules.specs.Sheets.{wordAt, signed, coordsOf}
 use Rattle.lists.specs.Lists.{rows}
-use Rattle.sheet.proofs.Laws.{one-more}
-use Rattle.sheet.proofs.coords_from.Statement.{statement}
-use Rattle.sheet.proofs.coords_from.Tie as tie
+use Rattle.reader.proofs.Laws.{one-more}
+use Rattle.reader.proofs.coords_from.Statement.{statement}
+use Rattle.reader.proofs.coords_from.Tie as tie
 
 abbrev Inv-loop : tie.InvT-loop
 Inv-loop b n s₀ k₀ s k = (k ≤ n) × ((length s ≡ length s₀) × (s ≡ sets s₀ 0 (coordsOf b k)))

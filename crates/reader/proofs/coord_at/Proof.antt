@@ -3,8 +3,8 @@ use mir.Syntax.{w32}
 use mir.ValLaws.{toZ-ofZ}
 use Rattle.rules.specs.Sheets.{signed}
 use borrow.Author.Needs.{needs}
-use Rattle.sheet.proofs.coord_at.Statement.{statement}
-use Rattle.sheet.proofs.coord_at.Tie as tie
+use Rattle.reader.proofs.coord_at.Statement.{statement}
+use Rattle.reader.proofs.coord_at.Tie as tie
 
 word-at-requires : tie.Need-word-at-requires
 word-at-requires c κs = search needs

@@ -3,11 +3,11 @@ use Prim.Native.Nat.{_+_, _-_, _≤_}
 use mathlib.Core.Path.{_≡_, ap, _∙_}
 use native.Mathlib.Omega.{arith}
 use lib.ListN.{length}
-use Rattle.sheet.specs.Reading.{vertexBytes, faceBytes, sheetOf}
-use Rattle.sheet.proofs.Laws.{bytes-within, faces-are}
+use Rattle.reader.specs.Reading.{vertexBytes, faceBytes, sheetOf}
+use Rattle.reader.proofs.Laws.{bytes-within, faces-are}
 use borrow.Author.Needs.{needs}
-use Rattle.sheet.proofs.face_block.Statement.{statement}
-use Rattle.sheet.proofs.face_block.Tie as tie
+use Rattle.reader.proofs.face_block.Statement.{statement}
+use Rattle.reader.proofs.face_block.Tie as tie
 
 read-sheet-requires : tie.Need-read-sheet-requires
 read-sheet-requires c κs = search needs

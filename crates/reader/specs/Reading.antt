@@ -3,8 +3,8 @@ use Prim.Native.Nat.{ℕ, _*_}
 use mathlib.Core.List.{List}
 use Rattle.lists.specs.Lists.{pick}
 use Rattle.rules.specs.Sheets.{badSheet, sheetVerts, sheetFaces, sheetLevels}
-use Rattle.sheet.specs.declared.Sheet.{Sheet}
-use Rattle.sheet.specs.declared.Sheet.the-variants as sheet
+use Rattle.reader.specs.declared.Sheet.{Sheet}
+use Rattle.reader.specs.declared.Sheet.the-variants as sheet
 
 -- refusal 15, or V, F and the levels
 unfoldable pub sheetOf : List ℕ → Sheet

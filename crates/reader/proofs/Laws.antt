@@ -12,7 +12,7 @@ use lib.Dec.{T, ltb, eqb, eqb→eq}
 use Rattle.lists.specs.Lists.{rows, part}
 use Rattle.lists.proofs.Stores.{length-rows, sets-row}
 use Rattle.rules.specs.Sheets.{wordAt, trailer, sheetVerts, sheetFaces, badSheet, vertexBlock, faceBlock}
-use Rattle.sheet.specs.Reading.{sheetOf, vertexBytes, faceBytes}
+use Rattle.reader.specs.Reading.{sheetOf, vertexBytes, faceBytes}
 
 pub minus-one : (x : ℕ) → negsuc 0 -ℤ pos x ≡ negsuc x
 minus-one zero = refl
