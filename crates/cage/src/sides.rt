@@ -169,14 +169,16 @@ pub fn link(indices: &[u32], heads: &[u16], nexts: &[u16], words: &mut [u32], at
     put_vertices(indices, heads, nexts, &mut marks, words, at)
 }
 
-// The link word of each side of a list that passed check 7.
+// The link word of each side of a list that passed check 7. The marks are its own, so that `link` has one caller, in whose frame they stand where the counts of the corners
+// stand later.
 pub fn put_links(indices: &[u32], heads: &[u16], nexts: &[u16], words: &mut [u32], at: usize)
     requires sizes { ⌜ Faces (now indices) × Below (length (now heads)) (now indices) × Below 4096 (now indices) × (at + length (now indices) ≤ length (now words)) ⌝ }
     requires chains { ⌜ Heads (now indices) (length (now indices)) (now heads) × Chained (now indices) (length (now indices)) (now nexts) ⌝ }
     requires once { ⌜ Once (now indices) ⌝ }
     ensures { λ r. ⌜ now (words .exit) ≡ sets (now (words .entry)) at (map coded (links (now (indices .entry)))) ⌝ }
 {
-    link(indices, heads, nexts, words, at);
+    let mut marks = [0u16; 4096];
+    put_vertices(indices, heads, nexts, &mut marks, words, at);
 }
 
 // The side at that place of a chain; 0 where the chain is empty.
