@@ -12,10 +12,12 @@ use borrow.Author.Tests.{lt-ltb, le-leb, ne-eqb, ltb-true, ltb-false}
 use Rattle.lists.specs.Lists.{pick}
 use Rattle.whole.specs.Whole.{reach}
 use Rattle.listing.specs.Text.{digit, decimal, numeral}
-use Rattle.obj.specs.Reading.{Read, Reading, turn, next}
-use Rattle.obj.specs.declared.Spot.{Spot}
-use Rattle.obj.specs.declared.Spot.the-variants.{Coord, Minus, Above, Under, Corner, Number}
-use Rattle.obj.proofs.Spelled.{at, Digit, above-digit}
+use Rattle.spots.specs.Spots.{turn}
+use Rattle.obj.specs.Reading.{Read, Reading, next}
+use Rattle.spots.specs.declared.Spot.{Spot}
+use Rattle.spots.specs.declared.Spot.the-variants.{Coord, Minus, Above, Under, Corner, Number}
+use Rattle.spots.proofs.Turns.{Digit}
+use Rattle.obj.proofs.Spelled.{at, above-digit}
 use Rattle.obj.proofs.Sound.{below-digit, number-digit}
 
 -- ---- after some bytes

@@ -13,8 +13,9 @@ use Rattle.lists.proofs.Places.{skip}
 use Rattle.listing.specs.Text.{numeral, signedNumeral, line, vertexLine, faceLine}
 use Rattle.rules.specs.Refusals.{mostInMesh}
 use Rattle.obj.specs.Form.{objText, hasText}
-use Rattle.obj.specs.Reading.{Read, lists, wrong, next, begin, isStuck, isLine, readFrom, readObj}
-use Rattle.obj.specs.declared.Spot.the-variants.{Line}
+use Rattle.spots.specs.Spots.{isStuck, isLine}
+use Rattle.obj.specs.Reading.{Read, lists, wrong, next, begin, readFrom, readObj}
+use Rattle.spots.specs.declared.Spot.the-variants.{Line}
 use Rattle.obj.proofs.Spelled.{spelled, spelledCoords, spelledCorners, pieces, piece, at}
 use Rattle.obj.proofs.Sound.{Sound, Good, step, at-line, at-v, at-coord, at-minus, at-above, at-below, at-f, at-corner, at-number}
 

@@ -11,12 +11,13 @@ use Rattle.lists.specs.Lists.{pick}
 use Rattle.whole.specs.Whole.{reach}
 use Rattle.listing.specs.Text.{numeral, signedNumeral}
 use Rattle.listing.proofs.Laws.{numeral-few, signed-few}
-use Rattle.obj.specs.Reading.{Read, isDigit, ends}
+use Rattle.spots.specs.Spots.{isDigit, ends}
+use Rattle.obj.specs.Reading.{Read}
 use Rattle.obj.specs.Inside.{heldAt, endedBy, coordsHeld, cornersHeld, fits}
 use Rattle.obj.specs.declared.Held.{Held}
 use Rattle.obj.specs.declared.Held.the-variants.{Nothing, Plus, Less, Corner as CornerOf}
-use Rattle.obj.specs.declared.Spot.{Spot}
-use Rattle.obj.specs.declared.Spot.the-variants.{Line, AfterV, Coord, Minus, Above, Under, AfterF, Corner, Number, Stuck}
+use Rattle.spots.specs.declared.Spot.{Spot}
+use Rattle.spots.specs.declared.Spot.the-variants.{Line, AfterV, Coord, Minus, Above, Under, AfterF, Corner, Number, Stuck}
 use Rattle.obj.proofs.Spelled.{lead, piece, pieces, begun, spelled, spelledCoords, spelledCorners}
 use Rattle.obj.proofs.Sound.{Sound, at-line, at-v, at-coord, at-minus, at-above, at-below, at-f, at-corner, at-number}
 

@@ -11,15 +11,16 @@ use lib.ListN.{length, getD, drop, length-append}
 use lib.Seq.{sets, set-out, drop-cons, drop-length}
 use Rattle.lists.specs.Lists.{pick}
 use Rattle.lists.proofs.Stores.{sets-next}
-use Rattle.obj.specs.Reading.{Read, Reading, lists, wrong, turn, next, begin, isDigit, isStuck, isLine, minus, coordBy, cornerBy, readFrom, readObj}
+use Rattle.spots.specs.Spots.{turn, isDigit, isStuck, isLine}
+use Rattle.obj.specs.Reading.{Read, Reading, lists, wrong, next, begin, minus, coordBy, cornerBy, readFrom, readObj}
 use Rattle.obj.specs.Inside.{heldAt, endedBy, coordsHeld, cornersHeld, fits, seenOf, isWhole}
 use Rattle.obj.specs.Calls.{coordsOf, cornersOf}
 use Rattle.obj.specs.declared.Held.{Held}
 use Rattle.obj.specs.declared.Held.the-variants.{Nothing, Plus, Less, Corner as CornerOf}
 use Rattle.obj.specs.declared.Seen.{Seen}
 use Rattle.obj.specs.declared.Seen.the-variants.{Numbers, Wrong}
-use Rattle.obj.specs.declared.Spot.{Spot}
-use Rattle.obj.specs.declared.Spot.the-variants.{Line, AfterV, Coord, Minus, Above, Under, AfterF, Corner, Number, Stuck}
+use Rattle.spots.specs.declared.Spot.{Spot}
+use Rattle.spots.specs.declared.Spot.the-variants.{Line, AfterV, Coord, Minus, Above, Under, AfterF, Corner, Number, Stuck}
 use Rattle.obj.proofs.Spelled.{pieces, spelled}
 use Rattle.obj.proofs.Sound.{Sound, Step, step}
 use Rattle.obj.proofs.Exact.{nothing-yet}

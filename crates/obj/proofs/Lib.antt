@@ -6,7 +6,6 @@ pub mod Exact
 pub mod Round
 pub mod Place
 pub mod Most
-pub mod Turns
 pub mod Few
 pub mod Going
 pub mod Runs

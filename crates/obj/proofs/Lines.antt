@@ -24,7 +24,7 @@ use Rattle.obj.specs.Inside.{Small}
 use Rattle.obj.specs.Calls.{textOf}
 use Rattle.obj.specs.declared.Text.{Text}
 use Rattle.obj.specs.declared.Text.the-variants.{Bytes, Refused as NotWritten}
-use Rattle.obj.proofs.Spelled.{both}
+use Rattle.spots.proofs.Turns.{both}
 
 -- ---- 25: a search that has found one, and one that has found none
 

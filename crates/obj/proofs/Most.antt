@@ -12,9 +12,10 @@ use lib.ListN.{length, length-append}
 use borrow.Author.Tests.{ne-eqb}
 use Rattle.lists.specs.Lists.{pick}
 use Rattle.obj.specs.Form.{objText, hasText}
-use Rattle.obj.specs.Reading.{Read, wrong, turn, coordBy, cornerBy, next, begin, isStuck, readFrom, readObj}
-use Rattle.obj.specs.declared.Spot.{Spot}
-use Rattle.obj.specs.declared.Spot.the-variants.{Line, AfterV, AfterF, Corner, Number, Stuck}
+use Rattle.spots.specs.Spots.{turn, isStuck}
+use Rattle.obj.specs.Reading.{Read, wrong, coordBy, cornerBy, next, begin, readFrom, readObj}
+use Rattle.spots.specs.declared.Spot.{Spot}
+use Rattle.spots.specs.declared.Spot.the-variants.{Line, AfterV, AfterF, Corner, Number, Stuck}
 use Rattle.obj.proofs.Spelled.{at}
 use Rattle.obj.proofs.Back.{after, after-append}
 use Rattle.obj.proofs.Round.{fits, text-back, stuck-stays}

@@ -14,9 +14,10 @@ use Rattle.lists.specs.Lists.{pick, find}
 use Rattle.whole.specs.Whole.{reach}
 use Rattle.listing.specs.Text.{numeral, signedNumeral}
 use Rattle.obj.specs.Form.{Allowed}
-use Rattle.obj.specs.Reading.{Read, lists, wrong, next, begin, isStuck, isLine, ends, afterNumber, minus, readFrom, readObj}
-use Rattle.obj.specs.declared.Spot.{Spot}
-use Rattle.obj.specs.declared.Spot.the-variants.{Line, Coord, Under, Corner, Number}
+use Rattle.spots.specs.Spots.{isStuck, isLine, ends, afterNumber}
+use Rattle.obj.specs.Reading.{Read, lists, wrong, next, begin, minus, readFrom, readObj}
+use Rattle.spots.specs.declared.Spot.{Spot}
+use Rattle.spots.specs.declared.Spot.the-variants.{Line, Coord, Under, Corner, Number}
 use Rattle.obj.proofs.Spelled.{at, pieces, above-end}
 use Rattle.obj.proofs.Sound.{Sound, Step, step, below-end, number-end, at-line, at-v, at-coord, at-minus, at-above, at-below, at-f, at-corner, at-number}
 use Rattle.obj.proofs.Back.{after, after-append, below-back, corner-back}

@@ -15,10 +15,12 @@ use Rattle.whole.specs.Whole.{reach, inRange}
 use Rattle.rules.specs.Refusals.{mostInMesh}
 use Rattle.listing.specs.Text.{numeral, signedNumeral}
 use Rattle.obj.specs.Form.{objText, hasText, Allowed}
-use Rattle.obj.specs.Reading.{Read, Reading, lists, wrong, turn, next, begin, isStuck, isLine, ends, afterNumber, readFrom, readObj}
-use Rattle.obj.specs.declared.Spot.{Spot}
-use Rattle.obj.specs.declared.Spot.the-variants.{Line, AfterV, Coord, Minus, Above, Under, AfterF, Corner, Number, Stuck}
-use Rattle.obj.proofs.Spelled.{at, both, lead, piece, pieces, spelled, spelledCoords, spelledCorners, above-end}
+use Rattle.spots.specs.Spots.{turn, isStuck, isLine, ends, afterNumber}
+use Rattle.obj.specs.Reading.{Read, Reading, lists, wrong, next, begin, readFrom, readObj}
+use Rattle.spots.specs.declared.Spot.{Spot}
+use Rattle.spots.specs.declared.Spot.the-variants.{Line, AfterV, Coord, Minus, Above, Under, AfterF, Corner, Number, Stuck}
+use Rattle.spots.proofs.Turns.{both}
+use Rattle.obj.proofs.Spelled.{at, lead, piece, pieces, spelled, spelledCoords, spelledCorners, above-end}
 use Rattle.obj.proofs.Sound.{below-end, number-end}
 use Rattle.obj.proofs.Back.{after, after-append, above-back, below-back, corner-back}
 use Rattle.obj.proofs.Exact.{text-is}

@@ -11,14 +11,15 @@ use lib.ListN.{length, getD}
 use lib.Seq.{sets}
 use Rattle.lists.specs.Lists.{pick}
 use Rattle.whole.specs.Whole.{reach}
-use Rattle.obj.specs.Reading.{turn, isStuck, isDigit, grows, ends}
+use Rattle.spots.specs.Spots.{turn, isStuck, isDigit, grows, ends}
 use Rattle.obj.specs.Inside.{heldAt, endedBy, coordsHeld, cornersHeld, Run, no-digit, one-more, Onward, stays, above, under, corner}
 use Rattle.obj.specs.declared.Held.{Held}
 use Rattle.obj.specs.declared.Held.the-variants.{Nothing}
-use Rattle.obj.specs.declared.Spot.{Spot}
-use Rattle.obj.specs.declared.Spot.the-variants.{Above, Under, Number}
-use Rattle.obj.proofs.Spelled.{both, low, Digit, digit-of}
-use Rattle.obj.proofs.Turns.{grown-some, above-grows, under-grows, number-grows}
+use Rattle.spots.specs.declared.Spot.{Spot}
+use Rattle.spots.specs.declared.Spot.the-variants.{Above, Under, Number}
+use Rattle.spots.proofs.Turns.{both, Digit, digit-of}
+use Rattle.obj.proofs.Spelled.{low}
+use Rattle.spots.proofs.Turns.{grown-some, above-grows, under-grows, number-grows}
 use Rattle.obj.proofs.Going.{Going, Filling, filling-more}
 
 -- ---- the places

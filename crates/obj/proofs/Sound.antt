@@ -13,11 +13,13 @@ use borrow.Author.Tests.{lt-ltb, le-leb, lt-leb, eq-eqb, ne-eqb, ltb-true, leb-t
 use Rattle.lists.specs.Lists.{pick, find, later}
 use Rattle.whole.specs.Whole.{reach, inRange}
 use Rattle.listing.specs.Text.{numeral, signedNumeral}
-use Rattle.obj.specs.Reading.{Read, turn, next, isStuck, ends, afterNumber, isDigit, grows, minus}
-use Rattle.obj.specs.declared.Spot.{Spot}
-use Rattle.obj.specs.declared.Spot.the-variants.{Line, AfterV, Coord, Minus, Above, Under, AfterF, Corner, Number, Stuck}
+use Rattle.spots.specs.Spots.{turn, isStuck, ends, afterNumber, isDigit, grows}
+use Rattle.obj.specs.Reading.{Read, next, minus}
+use Rattle.spots.specs.declared.Spot.{Spot}
+use Rattle.spots.specs.declared.Spot.the-variants.{Line, AfterV, Coord, Minus, Above, Under, AfterF, Corner, Number, Stuck}
 use Rattle.obj.proofs.Decimals.{numeral-more, numeral-one}
-use Rattle.obj.proofs.Spelled.{spelled, pieces, Digit, digit-of, both, at, above-digit, above-end, above-digit-spelled, above-end-spelled, low, ends-by, after-last, spelledCoords, spelledCorners, begun, pieces-more}
+use Rattle.spots.proofs.Turns.{Digit, digit-of, both}
+use Rattle.obj.proofs.Spelled.{spelled, pieces, at, above-digit, above-end, above-digit-spelled, above-end-spelled, low, ends-by, after-last, spelledCoords, spelledCorners, begun, pieces-more}
 
 -- none found in a list, nor in its last element more
 pub find-more : {A : Type 0} (p : A → Bool) (xs : List A) (x : A) → find p xs ≡ none → p x ≡ false → find p (xs ++ (x ∷ [])) ≡ none

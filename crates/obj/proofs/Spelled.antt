@@ -1,20 +1,22 @@
 -- Each byte that is read is spelled by what has been read: so a text that is read whole is the text of its lists.
 use Prim.Native.Nat.{ℕ, suc, _+_, _-_, _*_, _%_, _≤_, _<_}
 use mathlib.Core.Path.{_≡_, refl, sym, ap, _∙_}
-use mathlib.Core.Bool.{Bool, true, false, _&&_}
+use mathlib.Core.Bool.{Bool, true, false}
 use mathlib.Core.List.{List, [], _∷_, _++_, append-assoc, append-nil}
 use native.Mathlib.Omega.{arith}
 use native.Mathlib.Nat.{lt-of-le-of-lt, zero-add}
-use lib.Dec.{ltb, leb, eqb, lit<}
+use lib.Dec.{leb, eqb, lit<}
 use lib.IntN.{ℤ, pos}
 use lib.ListN.{length, length-append}
-use borrow.Author.Tests.{lt-ltb, le-leb, lt-leb, eq-eqb, ne-eqb, ltb-true, leb-true, eqb-false}
+use borrow.Author.Tests.{lt-ltb, le-leb, lt-leb, eq-eqb, ne-eqb, eqb-false}
 use Rattle.lists.specs.Lists.{pick}
 use Rattle.whole.specs.Whole.{reach}
 use Rattle.listing.specs.Text.{numeral, signedNumeral}
-use Rattle.obj.specs.Reading.{Read, turn, next, ends, afterNumber, isDigit, grows}
-use Rattle.obj.specs.declared.Spot.{Spot}
-use Rattle.obj.specs.declared.Spot.the-variants.{Line, AfterV, Coord, Minus, Above, Under, AfterF, Corner, Number, Stuck}
+use Rattle.spots.specs.Spots.{turn, ends, afterNumber}
+use Rattle.obj.specs.Reading.{Read, next}
+use Rattle.spots.specs.declared.Spot.{Spot}
+use Rattle.spots.specs.declared.Spot.the-variants.{Line, AfterV, Coord, Minus, Above, Under, AfterF, Corner, Number, Stuck}
+use Rattle.spots.proofs.Turns.{Digit}
 use Rattle.obj.proofs.Decimals.{numeral-more}
 
 -- ---- number i of its kind, with the letter before the first of a line and what ends it
@@ -58,27 +60,10 @@ begun i j Stuck = []
 unfoldable pub spelled : Read → List ℕ
 spelled s = spelledCoords (s .coords) ++ (spelledCorners (s .corners) ++ begun (length (s .coords)) (length (s .corners)) (s .spot))
 
--- ---- tests
-pub both : (a b : Bool) → (a && b) ≡ true → (a ≡ true) × (b ≡ true)
-both true b e = (refl, e)
-both false b e = absurd (let z : _≡_ {A = ℕ} 0 1 = cc in omega arith)
-
-pub record Digit (n c most : ℕ) : Type 0 where
-  pub low : 48 ≤ c
-  pub high : c ≤ 57
-  pub above : 0 < n
-  pub within : 10 * n + (c - 48) ≤ most
-
-pub digit-of : (n c most : ℕ) → grows n c most ≡ true → Digit n c most
-digit-of n c most e =
-    let p = both (isDigit c && ltb 0 n) (leb (10 * n + (c - 48)) most) e in
-    let q = both (isDigit c) (ltb 0 n) (p .0) in
-    let r = both (leb 48 c) (leb c 57) (q .0) in
-    record { low = leb-true 48 c (r .0); high = leb-true c 57 (r .1); above = ltb-true 0 n (q .1); within = leb-true _ most (p .1) }
-
 abbrev pub at : List ℤ → List ℕ → Spot → Read
 at xs fs p = record { coords = xs; corners = fs; spot = p }
 
+-- ---- tests
 pub low : (t : Bool) → pick t 10 32 ≤ 32
 low true = omega arith
 low false = omega arith

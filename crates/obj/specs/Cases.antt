@@ -7,7 +7,8 @@ use Rattle.lists.specs.Lists.{rows}
 use Rattle.listing.specs.Text.{decimal, numeral, signedNumeral, vertexLine, faceLine}
 use Rattle.obj.specs.Form.{objText, hasText}
 use Rattle.obj.specs.Calls.{textOf, textAnswer, listsOf, listsAnswer}
-use Rattle.obj.specs.Reading.{Reading, lists, wrong, turn, next, readFrom, readObj}
+use Rattle.spots.specs.Spots.{turn}
+use Rattle.obj.specs.Reading.{Reading, lists, wrong, next, readFrom, readObj}
 
 -- "v 0 0 0", a line feed
 abbrev one : List ℕ

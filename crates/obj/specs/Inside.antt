@@ -8,9 +8,10 @@ use lib.IntN.{ℤ, pos}
 use lib.ListN.{length, getD}
 use Rattle.lists.specs.Lists.{pick}
 use Rattle.whole.specs.Whole.{reach}
-use Rattle.obj.specs.Reading.{Reading, lists, wrong, isDigit, grows, minus}
-use Rattle.obj.specs.declared.Spot.{Spot}
-use Rattle.obj.specs.declared.Spot.the-variants.{Line, AfterV, Coord, Minus, Above, Under, AfterF, Corner, Number, Stuck}
+use Rattle.spots.specs.Spots.{isDigit, grows}
+use Rattle.obj.specs.Reading.{Reading, lists, wrong, minus}
+use Rattle.spots.specs.declared.Spot.{Spot}
+use Rattle.spots.specs.declared.Spot.the-variants.{Line, AfterV, Coord, Minus, Above, Under, AfterF, Corner, Number, Stuck}
 use Rattle.obj.specs.declared.Held.{Held}
 use Rattle.obj.specs.declared.Held.the-variants.{Nothing, Plus, Less, Corner as CornerOf}
 use Rattle.obj.specs.declared.Seen.{Seen}

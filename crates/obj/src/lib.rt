@@ -3,6 +3,7 @@ ghost use Rattle.rules.specs.Calls.{given, lent};
 ghost use Rattle.obj.specs.Calls.{TextCall, ListsCall};
 use reading::pass;
 use rules::Refusal;
+use spots::Spot;
 use writing::face_lengths;
 use writing::objable;
 use writing::put_faces;
@@ -11,31 +12,7 @@ use writing::vertex_lengths;
 
 mod numbers;
 mod reading;
-mod spots;
 mod writing;
-
-// Where in a line the next byte stands.
-pub enum Spot {
-    // a line may begin, or the text end
-    Line,
-    // the space after `v`
-    AfterV,
-    // a coordinate begins
-    Coord,
-    // a minus sign was read
-    Minus,
-    // a coordinate so far: n, or -n
-    Above(u32),
-    Under(u32),
-    // the space after `f`
-    AfterF,
-    // a corner begins
-    Corner,
-    // a corner so far
-    Number(u32),
-    // no allowed text goes on like this
-    Stuck,
-}
 
 // So many bytes stand at the front of the buffer, or a refusal.
 pub enum Text {

@@ -6,10 +6,11 @@ ghost use lib.IntN.{pos};
 ghost use lib.ListN.{length};
 ghost use lib.Seq.{sets};
 ghost use Rattle.whole.specs.Whole.{reach};
-ghost use Rattle.obj.specs.Reading.{minus as minusOf, isDigit as isDigitOf};
+ghost use Rattle.spots.specs.Spots.{isDigit as isDigitOf};
+ghost use Rattle.obj.specs.Reading.{minus as minusOf};
 ghost use Rattle.obj.specs.Inside.{heldAt, endedBy, coordsHeld, cornersHeld, fits};
 use super::Held;
-use super::Spot;
+use spots::Spot;
 
 // The number at a spot.
 fn held_at(spot: Spot) -> Held

@@ -7,23 +7,23 @@ ghost use lib.Seq.{sets};
 ghost use Rattle.lists.specs.Lists.{pick};
 ghost use Rattle.rules.specs.Calls.{given};
 ghost use Rattle.obj.specs.Reading.{readObj};
-ghost use Rattle.obj.specs.Reading.{isLine as isLineAt};
+ghost use Rattle.spots.specs.Spots.{isLine as isLineAt};
 ghost use Rattle.obj.specs.Inside.{Run, Onward, seenOf, isWhole};
 ghost use Rattle.obj.specs.Calls.{coordsOf, cornersOf};
 use super::Held;
 use super::Reached;
 use super::Seen;
-use super::Spot;
 use super::Stand;
 use super::numbers::coords_held;
 use super::numbers::corners_held;
 use super::numbers::ended;
 use super::numbers::store_coord;
 use super::numbers::store_corner;
-use super::spots::grown;
-use super::spots::is_line;
-use super::spots::is_stuck;
-use super::spots::turn;
+use spots::Spot;
+use spots::grown;
+use spots::is_line;
+use spots::is_stuck;
+use spots::turn;
 
 fn wide(c: u8) -> u32
     ensures { λ r. ⌜ (r ≡ c) × (r < 256) ⌝ }

@@ -10,7 +10,8 @@ use Rattle.rules.specs.Calls.{Lent}
 use Rattle.writer.specs.Writing.{writtenOf, bytesLeft}
 use Rattle.writer.specs.declared.Written.{Written}
 use Rattle.writer.specs.declared.Written.the-variants as written
-use Rattle.obj.specs.Reading.{Reading, lists, wrong, isDigit, readObj}
+use Rattle.spots.specs.Spots.{isDigit}
+use Rattle.obj.specs.Reading.{Reading, lists, wrong, readObj}
 use Rattle.obj.specs.Calls.{coordsOf, cornersOf}
 use Rattle.objsheet.specs.declared.Levels.{Levels}
 use Rattle.objsheet.specs.declared.Levels.the-variants.{Are, NoNumber}

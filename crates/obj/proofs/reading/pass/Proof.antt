@@ -3,7 +3,7 @@ use mathlib.Core.Path.{_≡_, refl, sym, ap, _∙_}
 use native.Mathlib.Omega.{arith}
 use borrow.Author.Needs.{needs}
 use lib.ListN.{length}
-use Rattle.obj.specs.Reading.{isStuck}
+use Rattle.spots.specs.Spots.{isStuck}
 use Rattle.obj.specs.Inside.{seenOf}
 use Rattle.obj.proofs.Few.{one-coord, one-corner}
 use Rattle.obj.proofs.Going.{not-whole, going-stuck, few, fits-here, seen-end, Filling, filling-first, filling-more, filled-coords, filled-corners}
