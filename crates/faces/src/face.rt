@@ -1,4 +1,4 @@
-// The Rust's face by value, and what is asked of it. The plain engine asks, through crate `looks`, all but `other_vert` and `load`; the linked one goes by side numbers and holds no face.
+// The Rust's face by value, and its six questions. The plain engine asks them, through crate `looks`; the linked one goes by side numbers and holds no face.
 use crate::sides::FaceNo;
 use crate::sides::Link;
 use crate::sides::VertNo;

@@ -12,7 +12,7 @@ use Rattle.rules.specs.Mesh.{onward, backward, corner, links, through, here, wa
 use Rattle.rules.proofs.Sides.{length-links, twin-some}
 use Rattle.rules.proofs.Refine.{back-below}
 use Rattle.rules.proofs.Walks.{trail, all-of}
-use Rattle.faces.specs.Faces.{nextVertOf, prevVertOf}
+use Rattle.faces.specs.Faces.{nextVertOf, prevVertOf, otherVertOf}
 use Rattle.faces.specs.Rings.{stepOf, tripOf, vert}
 use Rattle.faces.specs.declared.face.Vert.the-variants as vertex
 use Rattle.faces.specs.declared.walks.Step.the-variants as step
@@ -70,3 +70,6 @@ module _ (w : List ℕ) (at n : ℕ) (p : Seen w at n) where
 
   pub prev-vert-is : (s : ℕ) → s < 3 * n → prevVertOf (bareAt w at (s / 3)) (vert (getD w (at + s) 0)) ≡ vertex.Is (vert (corner fs (backward s)))
   prev-vert-is s h = reads w at at n (p .listed .room) (λ s h. p .apart .each s (rw size h)) s h .prev-vert
+
+  pub other-vert-is : (s : ℕ) → s < 3 * n → otherVertOf (bareAt w at (s / 3)) (vert (getD w (at + s) 0)) (vert (getD w (at + onward s) 0)) ≡ vertex.Is (vert (corner fs (backward s)))
+  other-vert-is s h = reads w at at n (p .listed .room) (λ s h. p .apart .each s (rw size h)) s h .other-vert

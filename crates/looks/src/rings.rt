@@ -1,4 +1,4 @@
-// Walks and rings that look each neighbour up, as the Rust asks a face: `next_face`, `prev_face`, `next_vert`, `prev_vert`.
+// Walks and rings that look each neighbour up, as the Rust asks a face: `next_face`, `prev_face`, `next_vert`, `prev_vert`, `other_vert`.
 use crate::bare;
 use crate::next_corner;
 use crate::prev_corner;
@@ -9,10 +9,12 @@ use creases::rings::meet;
 use creases::rings::tallied;
 use faces::face::Vert;
 use faces::face::next_vert;
+use faces::face::other_vert;
 use faces::face::prev_vert;
 use faces::sides::FaceNo;
 use faces::sides::VertNo;
 use faces::sides::backward;
+use faces::sides::onward;
 use faces::walks::Step;
 use faces::walks::Trip;
 use faces::walks::Turn;
@@ -53,6 +55,16 @@ pub fn prev_of(words: &[u32], at: usize, nf: usize, s: usize) -> u32
 {
     let v = VertNo(words[at + s]);
     number_of(prev_vert(bare(words, at, FaceNo((s / 3) as u32)), v))
+}
+
+// The corner of its face that side s does not touch: `other_vert` of its two ends.
+pub fn far_of(words: &[u32], at: usize, nf: usize, s: usize) -> u32
+    requires { ⌜ Seen (now words) at nf × (s < 3 * nf) ⌝ }
+    ensures { λ r. ⌜ r ≡ mesh.corner (part at (3 * nf) (now (words .entry))) (mesh.backward s) ⌝ }
+{
+    let a = VertNo(words[at + s]);
+    let b = VertNo(words[at + onward(s)]);
+    number_of(other_vert(bare(words, at, FaceNo((s / 3) as u32)), a, b))
 }
 
 // From corner s by `next_face`.

@@ -3,8 +3,8 @@ use creases::creased;
 use faces::sides::VertNo;
 use levels::first_met;
 use looks::across;
+use looks::rings::far_of;
 use looks::rings::next_of;
-use looks::rings::prev_of;
 use looks::rings::sharp_ring;
 use marks::mark;
 use turns::MOST_VALENCE;
@@ -85,8 +85,8 @@ fn edge_point(
     if mark(words, marks, s) {
         return edge_rim(&work[from..from + 3 * nv], a, b);
     }
-    let d = VertNo(prev_of(words, at, nf, s));
-    let e = VertNo(prev_of(words, at, nf, (w - 1) as usize));
+    let d = VertNo(far_of(words, at, nf, s));
+    let e = VertNo(far_of(words, at, nf, (w - 1) as usize));
     edge_inner(&work[from..from + 3 * nv], a, b, d, e)
 }
 

@@ -125,25 +125,25 @@ returns-2 c =
       c .edge-rim2 .ensures .1,
     )
 
-prev-of-requires : tie.Need-prev-of-requires
-prev-of-requires c κs =
+far-of-requires : tie.Need-far-of-requires
+far-of-requires c κs =
     let s = c .before .before .before .before .before .before .before in
     let a = s .args in
     let r = s .pre in
     (seen (now (a .words)) (a .at) (a .marks) (a .nf) (a .nv) (r .0 .0), r .0 .1)
 
-sub-prev-of : tie.Need-sub-prev-of
-sub-prev-of c = search needs
+sub-far-of : tie.Need-sub-far-of
+sub-far-of c = search needs
 
-cast-prev-of : tie.Need-cast-prev-of
-cast-prev-of c =
+cast-far-of : tie.Need-cast-far-of
+cast-far-of c =
     let s = c .before .before .before .before .before .before .before .before in
     let a = s .args in
     let r = s .pre in
     omega (arith, across-below (now (a .words)) (a .at) (a .marks) (a .nf) (a .nv) (r .0 .0) (a .s) (r .0 .1) (c .before .before .before .before .across .result) (c .before .before .before .before .across .ensures) (c .before .before .before .if1 .left), r .0 .0 .small)
 
-prev-of-requires-2 : tie.Need-prev-of-requires-2
-prev-of-requires-2 c κs =
+far-of-requires-2 : tie.Need-far-of-requires-2
+far-of-requires-2 c κs =
     let s = c .before .before .before .before .before .before .before .before in
     let a = s .args in
     let r = s .pre in
@@ -181,8 +181,8 @@ edge-inner-requires c κs =
         readable l (r .1 .1) (rw (c .before .before .before .before .before .before .before .next-of .ensures) (corner-small (now (a .words)) (a .at) (a .marks) (a .nf) (a .nv) (r .0 .0) (onward (a .s)) (on-below (a .s) (a .nf) (r .0 .1)))),
       ),
       (
-        readable l (r .1 .1) (rw (c .before .before .prev-of .ensures) (corner-small (now (a .words)) (a .at) (a .marks) (a .nf) (a .nv) (r .0 .0) (backward (a .s)) (back-below (a .s) (a .nf) (r .0 .1)))),
-        readable l (r .1 .1) (rw (c .before .prev-of2 .ensures) (corner-small (now (a .words)) (a .at) (a .marks) (a .nf) (a .nv) (r .0 .0) (backward (y - 1)) (back-below (y - 1) (a .nf) t))),
+        readable l (r .1 .1) (rw (c .before .before .far-of .ensures) (corner-small (now (a .words)) (a .at) (a .marks) (a .nf) (a .nv) (r .0 .0) (backward (a .s)) (back-below (a .s) (a .nf) (r .0 .1)))),
+        readable l (r .1 .1) (rw (c .before .far-of2 .ensures) (corner-small (now (a .words)) (a .at) (a .marks) (a .nf) (a .nv) (r .0 .0) (backward (y - 1)) (back-below (y - 1) (a .nf) t))),
       ),
     )
 
@@ -192,7 +192,7 @@ returns-3 c =
     let a = s .args in
     let r = s .pre in (
       edge-smooth (now (a .words)) (a .at) (a .marks) (a .nf) (a .nv) (r .0 .0) (a .s) (r .0 .1) (c .before .before .before .before .before .before .before .across .result) (c .before .before .before .before .before .before .before .across .ensures) whole (part (a .from) (3 * a .nv) (now (a .work))) (lowered (c .edge-inner .result)) _ _ (corner-is (now (a .words)) (a .at) (a .marks) (a .nf) (a .nv) (r .0 .0) (a .s) (r .0 .1)) (c .before .before .before .before .before .before .before .before .next-of .ensures)
-          (c .before .before .before .before .before .before .if1 .left) (mark-at (now (a .words)) (a .marks) (a .nf) (a .s) (r .0 .1) ∙ sym (c .before .before .before .before .before .mark .ensures) ∙ c .before .before .before .before .if2 .left) _ _ (c .before .before .before .prev-of .ensures) (c .before .before .prev-of2 .ensures)
+          (c .before .before .before .before .before .before .if1 .left) (mark-at (now (a .words)) (a .marks) (a .nf) (a .s) (r .0 .1) ∙ sym (c .before .before .before .before .before .mark .ensures) ∙ c .before .before .before .before .if2 .left) _ _ (c .before .before .before .far-of .ensures) (c .before .before .far-of2 .ensures)
           (rw (lent-is (now (a .work)) (a .from) (3 * a .nv)) at (c .edge-inner .ensures .0)),
       c .edge-inner .ensures .1,
     )
@@ -224,10 +224,10 @@ edge-point-spec =
     part-edge-rim-end-2
     edge-rim-requires-2
     returns-2
-    prev-of-requires
-    sub-prev-of
-    cast-prev-of
-    prev-of-requires-2
+    far-of-requires
+    sub-far-of
+    cast-far-of
+    far-of-requires-2
     mul-edge-inner
     add-edge-inner
     mul-edge-inner-2
