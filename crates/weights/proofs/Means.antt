@@ -8,7 +8,7 @@ use native.Mathlib.Numerals.{add-one}
 use native.Mathlib.Nat.{mul-le-mul-left}
 use lib.ListN.{length, getD, take, length-map}
 use lib.Seq.{take-suc}
-use lib.IntN.{ℤ, pos, _+ℤ_, _*ℤ_, +ℤ-idl, +ℤ-idr, +ℤ-assoc}
+use lib.IntN.{ℤ, _+ℤ_, +ℤ-idl, +ℤ-idr, +ℤ-assoc}
 use borrow.Author.Tests.{leb-true, leb-false}
 use lib.Dec.{leb, eqb}
 use Rattle.lists.proofs.Places.{last-at}

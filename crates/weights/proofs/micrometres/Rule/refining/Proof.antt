@@ -1,3 +1,4 @@
+use mathlib.Core.Path.{refl}
 use borrow.Author.Needs.{needs}
 use Rattle.weights.proofs.micrometres.Rule.refining.Statement.{statement}
 use Rattle.weights.proofs.micrometres.Rule.refining.Tie as tie
@@ -6,7 +7,7 @@ beta-requires : tie.Need-beta-requires
 beta-requires c κs = search needs
 
 returns : tie.Need-returns
-returns c = rw (c .if1 .taken)
+returns c = rw (c .if1 .taken) refl
 
 returns-2 : tie.Need-returns-2
 returns-2 c = cc
