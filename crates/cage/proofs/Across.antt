@@ -20,8 +20,8 @@ use Rattle.rules.proofs.Refine.{Third, third, k0, k1, k2}
 use Rattle.rules.proofs.Checks.{set-of}
 use Rattle.rules.proofs.Faces.{Turn, turn, same, on, back, OnFace, has-at}
 use Rattle.faces.specs.Words.{linkOf, coded}
-use Rattle.cage.specs.Chains.{lastBelow, foldsBack}
-use Rattle.cage.proofs.Chains.{runs, last-at, last-nowhere}
+use Rattle.cage.specs.Chains.{lastBelow, foldsBack, runs}
+use Rattle.cage.proofs.Chains.{last-at, last-nowhere}
 
 pub true-of : (b : Bool) → T b → b ≡ true
 true-of true t = refl

@@ -1,4 +1,4 @@
--- Laws of the chains: what the heads and the sides before each hold, and what check 7 asks, as the last side that passes.
+-- Laws of the chains: what is found along one is what a search of all sides finds; and what check 7 asks, as the last side that passes.
 use mathlib.Core.Path.{_≡_, refl, sym, ap, _∙_}
 use Prim.Native.Nat.{ℕ, zero, suc, _+_, _-_, _≤_, _<_}
 use native.Mathlib.Omega.{arith}
@@ -15,12 +15,8 @@ use Rattle.lists.proofs.Places.{look, Look, nowhere, there}
 use Rattle.rules.specs.Mesh.{onward, corner, Side, side, sides}
 use Rattle.rules.specs.Refusals.{same, usedBefore}
 use Rattle.rules.proofs.Sides.{length-sides, getD-sides}
-use Rattle.cage.specs.Chains.{lastBelow, leaves, Heads, Chained}
+use Rattle.cage.specs.Chains.{lastBelow, leaves, runs, Heads, Chained}
 use Rattle.limits.proofs.Search.{failed}
-
--- side s runs from a to b
-abbrev pub runs : List ℕ → ℕ → ℕ → ℕ → Bool
-runs fs a b s = same (record { from = a; to = b }) (side fs s)
 
 module _ (p : ℕ → Bool) where
   last-le-by : (b : Bool) (k : ℕ) → p k ≡ b → lastBelow p k ≤ k → lastBelow p (suc k) ≤ suc k
@@ -46,6 +42,9 @@ module _ (p : ℕ → Bool) where
   pub last-more : (n : ℕ) → lastBelow p (n + 1) ≡ pick (p n) (n + 1) (lastBelow p n)
   unfolding lastBelow
   last-more n = rw add-one
+
+  pub last-turn : (h : ℕ) → 0 < h → lastBelow p h ≡ pick (p (h - 1)) h (lastBelow p (h - 1))
+  last-turn h l = let q : h - 1 + 1 ≡ h = omega arith in rw q at (last-more (h - 1))
 
   pub last-none : lastBelow p 0 ≡ 0
   unfolding lastBelow
@@ -85,12 +84,58 @@ module _ (p : ℕ → Bool) where
       clash : (x : Bool) → x ≡ true → x ≡ false → ⊥
       clash x e q = let z : _≡_ {A = ℕ} 0 1 = cc in omega arith
 
+-- where q passes only if p does, the last of q is sought below the last of p
+module _ (p q : ℕ → Bool) (only : (k : ℕ) → p k ≡ false → q k ≡ false) where
+  last-within-by : (b : Bool) (k : ℕ) → p k ≡ b → lastBelow q k ≡ lastBelow q (lastBelow p k) → lastBelow q (suc k) ≡ lastBelow q (lastBelow p (suc k))
+  unfolding lastBelow
+  last-within-by true k e h = let z : lastBelow p (suc k) ≡ suc k = rw e in ap (lastBelow q) (sym z)
+  last-within-by false k e h = rw (e, only k e) h
+
+  pub last-within : (n : ℕ) → lastBelow q n ≡ lastBelow q (lastBelow p n)
+  unfolding lastBelow
+  last-within zero = refl
+  last-within (suc k) = last-within-by (p k) k refl (last-within k)
+
+-- ---- along a chain
+
 pub eqb-sym : (a b : ℕ) → eqb a b ≡ eqb b a
 eqb-sym a b = go (eqb b a) refl
   where
     go : (x : Bool) → eqb b a ≡ x → eqb a b ≡ x
     go true e = eq-eqb a b (sym (eqb-true b a e))
     go false e = ne-eqb a b (λ z. eqb-false b a e (sym z))
+
+module _ (fs : List ℕ) where
+  runs-leaves : (a b k : ℕ) → leaves fs a k ≡ false → runs fs a b k ≡ false
+  runs-leaves a b k e = rw (eqb-sym a (corner fs k), e)
+
+  -- from the last that leaves a
+  pub runs-from : (a b n h : ℕ) → h ≡ lastBelow (leaves fs a) n → lastBelow (runs fs (corner fs (h - 1)) b) h ≡ lastBelow (runs fs a b) n
+  runs-from a b n h e = go (eqb h 0) refl
+    where
+      within : lastBelow (runs fs a b) n ≡ lastBelow (runs fs a b) h
+      within = rw e (last-within (leaves fs a) (runs fs a b) (runs-leaves a b) n)
+
+      go : (x : Bool) → eqb h 0 ≡ x → lastBelow (runs fs (corner fs (h - 1)) b) h ≡ lastBelow (runs fs a b) n
+      go true q =
+          let z : h ≡ 0 = eqb-true h 0 q in
+          ap (lastBelow (runs fs (corner fs (h - 1)) b)) z ∙ last-none _ ∙ sym (within ∙ ap (lastBelow (runs fs a b)) z ∙ last-none _)
+      go false q =
+          let z : 0 < h = let d = eqb-false h 0 q in omega arith in
+          let c : corner fs (h - 1) ≡ a = eqb-true _ _ (rw (← e) at (last-is (leaves fs a) n (rw (← e) z))) in
+          ap (λ (x : ℕ). lastBelow (runs fs x b) h) c ∙ sym within
+
+  runs-at : (a b k : ℕ) → corner fs k ≡ a → runs fs a b k ≡ eqb b (corner fs (onward k))
+  runs-at a b k e = rw (eq-eqb a (corner fs k) (sym e))
+
+  -- one side of a chain: it is the one, or the next is asked
+  pub runs-turn : (a b h : ℕ) → 0 < h → corner fs (h - 1) ≡ a →
+      lastBelow (runs fs a b) h ≡ pick (eqb b (corner fs (onward (h - 1)))) h (lastBelow (runs fs a b) (h - 1))
+  runs-turn a b h l e = last-turn (runs fs a b) h l ∙ ap (λ (x : Bool). pick x h (lastBelow (runs fs a b) (h - 1))) (runs-at a b (h - 1) e)
+
+  -- to the next
+  pub runs-next : (a b h m : ℕ) → m ≡ lastBelow (leaves fs a) h → lastBelow (runs fs a b) h ≡ lastBelow (runs fs a b) m
+  runs-next a b h m e = rw e (last-within (leaves fs a) (runs fs a b) (runs-leaves a b) h)
 
 -- ---- one side more
 

@@ -19,10 +19,10 @@ use Rattle.rules.specs.Refusals.{usedBefore}
 use Rattle.rules.proofs.Sides.{on-back, back-on, on-below}
 use Rattle.rules.proofs.Refine.{back-below}
 use Rattle.faces.specs.Words.{coded}
-use Rattle.cage.specs.Chains.{lastBelow, leaves, Faces, Once, freshMark, lowerOf, Marked, Met, Repeat, Least, Coming}
+use Rattle.cage.specs.Chains.{lastBelow, leaves, Faces, Once, freshMark, lowerOf, Marked, Met, Repeat, Least, Coming, runs}
 use Rattle.cage.specs.Fans.{placeOr}
 use Rattle.limits.proofs.Search.{passed, failed}
-use Rattle.cage.proofs.Chains.{runs, last-le, last-is, last-after, last-at, last-nowhere, used-is}
+use Rattle.cage.proofs.Chains.{last-le, last-is, last-after, last-at, last-nowhere, used-is}
 use Rattle.cage.proofs.Across.{true-of, false-of, link-word, length-words, coded-at}
 
 -- ---- a mark, fresh or stale; the lower of two sides

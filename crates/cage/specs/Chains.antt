@@ -8,8 +8,8 @@ use mathlib.Core.Option.{Option, none, some}
 use lib.Dec.{eqb, ltb}
 use lib.ListN.{length, getD}
 use Rattle.lists.specs.Lists.{pick}
-use Rattle.rules.specs.Mesh.{onward, backward, corner, sides, links}
-use Rattle.rules.specs.Refusals.{usedBefore}
+use Rattle.rules.specs.Mesh.{onward, backward, corner, side, sides, links}
+use Rattle.rules.specs.Refusals.{same, usedBefore}
 use Rattle.faces.specs.Words.{coded}
 
 -- one past the last number below n that passes, or 0 where none does
@@ -17,9 +17,12 @@ unfoldable pub lastBelow : (ℕ → Bool) → ℕ → ℕ
 lastBelow p zero = 0
 lastBelow p (suc k) = pick (p k) (suc k) (lastBelow p k)
 
--- side s leaves a
+-- side s leaves a; it runs from a to b
 abbrev pub leaves : List ℕ → ℕ → ℕ → Bool
 leaves fs a s = eqb (corner fs s) a
+
+abbrev pub runs : List ℕ → ℕ → ℕ → ℕ → Bool
+runs fs a b s = same (record { from = a; to = b }) (side fs s)
 
 -- a face list after checks 2 and 3
 pub record Faces (fs : List ℕ) : Type 0 where

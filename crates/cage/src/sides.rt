@@ -9,7 +9,7 @@ ghost use Rattle.lists.specs.Lists.{lowest};
 ghost use Rattle.rules.specs.Mesh.{onward, corner, sides, links};
 ghost use Rattle.rules.specs.Refusals.{usedBefore};
 ghost use Rattle.faces.specs.Words.{coded};
-ghost use Rattle.cage.specs.Chains.{lastBelow, leaves, Faces, Below, Once, Heads, Chained, freshMark, lowerOf, Marked, Met, Repeat, Least, Coming, before};
+ghost use Rattle.cage.specs.Chains.{lastBelow, leaves, runs, Faces, Below, Once, Heads, Chained, freshMark, lowerOf, Marked, Met, Repeat, Least, Coming, before};
 ghost use Rattle.cage.specs.Fans.{placeOr};
 
 // Where side s ends.
@@ -169,16 +169,38 @@ pub fn link(indices: &[u32], heads: &[u16], nexts: &[u16], words: &mut [u32], at
     put_vertices(indices, heads, nexts, &mut marks, words, at)
 }
 
-// The link word of each side of a list that passed check 7. The marks are its own, so that `link` has one caller, in whose frame they stand where the counts of the corners
-// stand later.
+// Along a chain from `head` on: one past the last side that ends at b, or 0.
+fn seek(indices: &[u32], nexts: &[u16], head: u16, b: u32) -> u32
+    requires sizes { ⌜ Faces (now indices) × (head ≤ length (now indices)) ⌝ }
+    requires nexts { ⌜ Chained (now indices) (length (now indices)) (now nexts) ⌝ }
+    ensures { λ r. ⌜ r ≡ lastBelow (runs (now (indices .entry)) (corner (now (indices .entry)) (head - 1)) b) head ⌝ }
+{
+    let mut h = head;
+    while h > 0 {
+        let k = (h - 1) as usize;
+        if end_of(indices, k) == b {
+            return h as u32;
+        }
+        h = nexts[k];
+    }
+    0
+}
+
+// The link word of each side of a cage that passed the checks: along the chain of the sides that leave its end, the one that comes back. A vertex has few sides then, so no marks are
+// needed, whose table would stand in the frames of all who load a cage.
 pub fn put_links(indices: &[u32], heads: &[u16], nexts: &[u16], words: &mut [u32], at: usize)
-    requires sizes { ⌜ Faces (now indices) × Below (length (now heads)) (now indices) × Below 4096 (now indices) × (at + length (now indices) ≤ length (now words)) ⌝ }
+    requires sizes { ⌜ Faces (now indices) × Below (length (now heads)) (now indices) × (at + length (now indices) ≤ length (now words)) ⌝ }
     requires chains { ⌜ Heads (now indices) (length (now indices)) (now heads) × Chained (now indices) (length (now indices)) (now nexts) ⌝ }
     requires once { ⌜ Once (now indices) ⌝ }
     ensures { λ r. ⌜ now (words .exit) ≡ sets (now (words .entry)) at (map coded (links (now (indices .entry)))) ⌝ }
 {
-    let mut marks = [0u16; 4096];
-    put_vertices(indices, heads, nexts, &mut marks, words, at);
+    let mut s = 0;
+    while s < indices.len() {
+        let b = end_of(indices, s) as usize;
+        let t = seek(indices, nexts, heads[b], indices[s]);
+        words[at + s] = t;
+        s = s + 1;
+    }
 }
 
 // The side at that place of a chain; 0 where the chain is empty.

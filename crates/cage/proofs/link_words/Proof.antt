@@ -36,7 +36,7 @@ put-links-requires c κs =
     let k = c .before .before .before .before .before .chain in
     let p = c .before .before .before .before .before .before .before .before .before .before .pre in
     let n : length (k .last .1 .0) ≡ 4096 = k .kept .1 .0 in
-    ((p .0 .0, rw n (p .0 .1), p .0 .1, omega arith), ((k .ensures .0, k .ensures .1), p .1))
+    ((p .0 .0, rw n (p .0 .1), omega arith), ((k .ensures .0, k .ensures .1), p .1))
 
 slice-aggregate-put-starts : tie.Need-slice-aggregate-put-starts
 slice-aggregate-put-starts c = search needs

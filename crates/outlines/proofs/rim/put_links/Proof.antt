@@ -31,7 +31,7 @@ put-links-requires c κs =
     let k = c .before .before .before .before .before .chain in
     let p = c .before .before .before .before .before .before .before .before .before .before .pre in
     let n : length (k .last .1 .0) ≡ 4096 = k .kept .1 .0 in
-    ((p .0, rw n (p .1), p .1, omega (arith, p .3)), ((k .ensures .0, k .ensures .1), p .2))
+    ((p .0, rw n (p .1), omega (arith, p .3)), ((k .ensures .0, k .ensures .1), p .2))
 
 same-length : tie.Need-same-length
 same-length c = search needs
