@@ -1,5 +1,5 @@
-// Sides by the vertex they leave: a head for each vertex, and from each side the one before it. The side across is found by marks: at each vertex in turn the sides
-// that leave it write their numbers where they end, and those that come to it read there.
+// Sides by the vertex they leave: a head for each vertex, and from each side the one before it. The checks, which meet vertices of any number of faces, find the side across by marks: at
+// each vertex in turn the sides that leave it write their numbers where they end, and those that come to it read there. Of a cage that passed them it is sought along the chain.
 ghost use mathlib.Core.Path.{_≡_};
 ghost use Prim.Native.Nat.{_+_, _-_, _≤_, _<_};
 ghost use mathlib.Core.List.{map};
