@@ -1,5 +1,7 @@
 // docs/RULES.md, Answers: checks 1 to 13 in the order of its table, the lowest place first; 1 to 6 and 13 are of crate `limits`. No lent buffer is written
 // here: what a check needs to remember stands in local arrays.
+#![tactic(auto)]
+
 ghost use Rattle.std.specs.Prelude.{◌≡◌, ◌+◌, ◌≤◌, map, length, take};
 ghost use Rattle.std.proofs.lemmas.List.Edits.{sets};
 ghost use Rattle.rules.specs.Mesh.{links, cage};

@@ -1,4 +1,6 @@
 // `claimcheck`: a tolerance, the length of a sheet, the sheet and a listing from standard input; the verdict on that listing to standard output.
+#![tactic(auto)]
+
 ghost use Rattle.std.specs.Prelude.{◌≡◌, true, false, ◌*◌, ◌<◌, ◌≤◌, length};
 ghost use Rattle.rules.specs.Calls.{given};
 ghost use Rattle.rules.specs.Sheets.{sheet_levels, sheet_indices, sheet_coords, sheet_outcome, cut_rooms};

@@ -1,5 +1,7 @@
 // One level in whole micrometres where edges are sharp: the ring of a vertex with the sharp edges in it, and the new positions. Here a vertex by how many sharp and rim
 // edges it has: the rules of crate `weights`, with marks.
+#![tactic(auto)]
+
 pub mod points;
 pub mod rings;
 

@@ -1,4 +1,5 @@
 // What the programs that cut a plate do, by either engine: the bytes of a sheet in, the text of its plate or of the refusal out.
+#![tactic(auto)]
 
 ghost use Rattle.std.specs.Prelude.{◌≤◌, length};
 ghost use Rattle.listing.specs.Text.{Put};

@@ -1,4 +1,6 @@
 // `fontcut`: a font's sheets from standard input, their number and lengths before them; the listing or the refusal of each in turn to standard output.
+#![tactic(auto)]
+
 ghost use Rattle.std.specs.Prelude.{◌≡◌, ◌+◌, ◌*◌, ◌≤◌, length, get_or};
 ghost use Rattle.rules.specs.Calls.{given};
 ghost use Rattle.listing.specs.Text.{Put};

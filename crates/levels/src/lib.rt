@@ -1,5 +1,7 @@
 // One level of a mesh that stands in lent words, in place of the Rust's hash maps by links alone: edge numbers, children, their links, start corners.
 // The level is read in one part of the words and the next one is written in the other; see crate `faces`, specs/Words.
+#![tactic(auto)]
+
 pub mod micrometres;
 pub mod points;
 

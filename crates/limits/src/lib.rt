@@ -1,4 +1,6 @@
 // docs/RULES.md, Answers: checks 1 to 6 and 13. The limits of what is given, the corners of each face, and the counts after the levels: none follows a link.
+#![tactic(auto)]
+
 ghost use Rattle.std.specs.Prelude.{◌≡◌, ◌≤◌, length};
 ghost use Rattle.rules.specs.Position.{whole, single};
 ghost use Rattle.rules.specs.Refusals.{shape_refusal, range_refusal};

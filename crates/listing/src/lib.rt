@@ -1,5 +1,6 @@
 // The text of a plate or of a refusal: 01, "Sheets on both sides of a line". Each function puts its piece at a place of a lent buffer and answers the
 // place after it.
+#![tactic(auto)]
 
 ghost use Rattle.std.specs.Prelude.{◌≡◌, ℕ, ◌+◌, ◌*◌, ◌≤◌, ◌<◌, [], ◌∷◌, length, get_or, ℤ, pos};
 ghost use Rattle.lists.specs.Lists.{rows};

@@ -1,4 +1,6 @@
 // What is found by looking through a face list, each time it is asked: what lies across a side, a face with its links, the walks round a vertex, its ring. No links are kept.
+#![tactic(auto)]
+
 pub mod rings;
 
 ghost use Rattle.std.specs.Prelude.{◌≡◌, ◌+◌, ◌*◌, ◌≤◌, ◌<◌, length, get_or};

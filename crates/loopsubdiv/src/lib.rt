@@ -1,5 +1,7 @@
 // The Loop smoother of pbrt-rust's `src/shapes/loopsubdiv.rs`, with checks and numbered refusals in place of panics: the public calls. Judge, then act: no lent buffer
 // is touched before the outcome is known.
+#![tactic(auto)]
+
 ghost use Rattle.std.specs.Prelude.{◌≡◌, ◌+◌, ◌*◌, ◌≤◌, length, pos};
 ghost use Rattle.std.proofs.lemmas.List.Edits.{sets};
 ghost use Rattle.lists.specs.Lists.{cleared};

@@ -1,4 +1,6 @@
 // `makesheet`: bare lists from standard input; their sheet to standard output, or the refusal to standard error and nothing to standard output.
+#![tactic(auto)]
+
 ghost use Rattle.std.specs.Prelude.{◌≡◌, ◌+◌, ◌*◌, ◌≤◌, length, drop};
 ghost use Rattle.rules.specs.Sheets.{words_of, coords_of};
 ghost use Rattle.rules.specs.Calls.{given, lent};

@@ -1,4 +1,6 @@
 // The marks of sharp edges in lent words: one word to a face, bit k the mark of its side k. Read, set from a list of sides, and carried from level to level.
+#![tactic(auto)]
+
 ghost use Rattle.std.specs.Prelude.{◌≡◌, ◌⊎◌, ◌+◌, ◌*◌, ◌/◌, ◌%◌, ◌≤◌, ◌<◌, length, get_or, set};
 ghost use Rattle.std.proofs.lemmas.List.Edits.{sets};
 ghost use Rattle.lists.specs.Lists.{count, gather, part};

@@ -1,4 +1,6 @@
 // Request [13]: a whole mesh as Wavefront OBJ text, and that text read back. Judge, then act: no lent buffer is touched before the answer is known.
+#![tactic(auto)]
+
 ghost use Rattle.rules.specs.Calls.{given, lent};
 ghost use Rattle.obj.specs.Calls.{TextCall, ListsCall};
 

@@ -1,4 +1,6 @@
 // `objsheet LEVELS`: a cage as OBJ text from standard input; its sheet to standard output, or the refusal to standard error and nothing to standard output.
+#![tactic(auto)]
+
 ghost use Rattle.std.specs.Prelude.{◌≡◌, ◌<◌, length};
 ghost use Rattle.rules.specs.Calls.{given, lent};
 ghost use Rattle.objsheet.specs.Making.{levels_of, refused_by, ObjSheetCall};

@@ -1,4 +1,6 @@
 // `outline`: a sheet from standard input; the rim of its plate as loops of points, or the refusal, to standard output.
+#![tactic(auto)]
+
 ghost use Rattle.std.specs.Prelude.{◌≡◌, ◌≢◌, ◌+◌, ◌*◌, ◌≤◌, length};
 ghost use Rattle.rules.specs.Calls.{given};
 ghost use Rattle.rules.specs.Sheets.{sheet_levels, sheet_indices, sheet_coords};

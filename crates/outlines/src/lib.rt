@@ -1,4 +1,6 @@
 // The rim loops of a final mesh, for the router, on top of the whole engine. Judge, then act: no lent buffer is touched before the outcome is known, the list's room included.
+#![tactic(auto)]
+
 ghost use Rattle.std.specs.Prelude.{◌≡◌, ◌/◌, ◌≤◌, length};
 ghost use Rattle.std.proofs.lemmas.List.Edits.{sets};
 ghost use Rattle.rules.specs.Position.{whole};

@@ -1,5 +1,7 @@
 // A second engine for whole micrometres, which keeps no links: what lies across a side, a vertex's fan and an edge's number are found by looking through the face list,
 // each time they are asked. Its promise is that of `loop_subdivide_whole`, word for word.
+#![tactic(auto)]
+
 ghost use Rattle.std.specs.Prelude.{◌≡◌};
 ghost use Rattle.rules.specs.Position.{whole};
 ghost use Rattle.rules.specs.Answers.{whole_rooms};

@@ -1,4 +1,6 @@
 // `plaincut`: what `platecut` writes, by the plain engine, which keeps no links between faces.
+#![tactic(auto)]
+
 use sheet::Engine;
 
 fn main() {

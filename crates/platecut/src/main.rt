@@ -1,4 +1,6 @@
 // `platecut`: a sheet from standard input; the listing of its plate, or the refusal, to standard output.
+#![tactic(auto)]
+
 use sheet::Engine;
 
 fn main() {

@@ -1,4 +1,6 @@
 // `plateobj`: a sheet from standard input; its plate as OBJ text, or the refusal, to standard output.
+#![tactic(auto)]
+
 ghost use Rattle.std.specs.Prelude.{◌≤◌, ◌≡◌, true, length};
 ghost use Rattle.listing.specs.Text.{Put};
 ghost use Rattle.rules.specs.Calls.{given};

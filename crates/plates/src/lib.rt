@@ -1,4 +1,6 @@
 // For C (plates.h): the public calls over numbers and slices, with numbers for the answer: a mesh's five, the writer's three, one for a batch, four for outlines, six for a claim, three and four for OBJ text. Each promises all that the call below it does.
+#![tactic(auto)]
+
 ghost use Rattle.std.specs.Prelude.{◌≡◌};
 ghost use Rattle.rules.specs.Calls.{given, lent, buffers, SharpCall, SingleCall, SheetCall, Told};
 ghost use Rattle.writer.specs.Writing.{written_answer, WriteTold};

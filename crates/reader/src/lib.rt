@@ -1,4 +1,6 @@
 // Sheets: 01, "Sheets and limits". The reader hands back each block as that stretch of the lent bytes.
+#![tactic(auto)]
+
 ghost use Rattle.std.specs.Prelude.{◌≡◌, ◌+◌, ◌*◌, ◌≤◌, ◌<◌, length};
 ghost use Rattle.std.proofs.lemmas.List.Edits.{sets};
 ghost use Rattle.rules.specs.Sheets.{word_at, words_of, coords_of, vertex_block, face_block};

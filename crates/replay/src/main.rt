@@ -1,4 +1,6 @@
 // Replays the oracle's stored answers (oracle/answers, from standard input) through the f32 call: faces, position bits and normal bits, cage by cage.
+#![tactic(auto)]
+
 ghost use Rattle.std.specs.Prelude.{◌≡◌, ◌≤◌, length};
 
 use libc::{STDIN_FILENO, STDOUT_FILENO};

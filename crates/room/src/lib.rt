@@ -1,4 +1,6 @@
 // Lent buffers: are they long enough, copying into them, clearing them, and which part holds the last level.
+#![tactic(auto)]
+
 ghost use Rattle.std.specs.Prelude.{◌≡◌, ◌+◌, ◌*◌, ◌≤◌, ◌%◌, ◌++◌, pos, length, take, eqb};
 ghost use Rattle.std.proofs.lemmas.List.Edits.{sets};
 ghost use Rattle.lists.specs.Lists.{pick, cleared};

@@ -48,8 +48,8 @@ module _ (𝓝 𝓜 : Numbers) (R : ℕ → 𝓝.N → 𝓜.N → Type 0) (K : K
     of-creases s v u vs (a ∷ b ∷ d ∷ es) c = K.more (at 𝓝 𝓜 R K e xs ys p c v)
 
     of-creased : (s : Stage) (fs : List ℕ) (ms : List Bool) (v : ℕ) (f : Fan) → Filled f → (c : ℕ) → R (suc e) (creased 𝓝 s fs ms xs v f c) (creased 𝓜 s fs ms ys v f c)
-    of-creased s fs ms v _ (round {x} {cs}) c = of-creases s v _ _ (creases fs ms (inner (x ∷ cs))) c
-    of-creased s fs ms v _ (fringe {x} {cs}) c = of-creases s v _ _ (creases fs ms (rim (x ∷ cs))) c
+    of-creased s fs ms v _ (round {x} {cs}) c = of-creases s v (corner fs (onward x)) (map (λ d. corner fs (onward d)) cs) (creases fs ms (inner (x ∷ cs))) c
+    of-creased s fs ms v _ (fringe {x} {cs}) c = of-creases s v (corner fs (onward x)) (map (λ d. corner fs (backward d)) (x ∷ cs)) (creases fs ms (rim (x ∷ cs))) c
     of-creased s fs ms v _ lost c = K.more (at 𝓝 𝓜 R K e xs ys p c v)
 
     pub related-sharp-moved : (s : Stage) (m : Mesh) (ls : List (Option ℕ)) (ms : List Bool) (v : ℕ) → Pairs (R (suc e)) (sharp_moved 𝓝 s m ls ms xs v) (sharp_moved 𝓜 s m ls ms ys v)

@@ -1,4 +1,6 @@
 // What every call answers with. The definitions of docs/RULES.md stand in specs/, their laws in proofs/.
+#![tactic(auto)]
+
 ghost use Rattle.std.specs.Prelude.{◌≡◌};
 ghost use Rattle.rules.specs.Answers.{answer};
 

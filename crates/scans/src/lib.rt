@@ -1,5 +1,7 @@
 // Checks 7 to 13 and 18 as a tester would make them on paper: each looks through the face list anew, with no chain, no link word and no table. Checks 1 to 6 use none either and
 // are those of crate `limits`.
+#![tactic(auto)]
+
 ghost use Rattle.std.specs.Prelude.{◌≡◌, map, ◌+◌, ◌≤◌, length};
 ghost use Rattle.std.proofs.lemmas.List.Edits.{sets};
 ghost use Rattle.lists.specs.Lists.{count};

@@ -1,4 +1,6 @@
 // The whole engine where edges are sharp, once the checks are passed: `micrometres` of crate `loopsubdiv`, with marks.
+#![tactic(auto)]
+
 ghost use Rattle.std.specs.Prelude.{◌≡◌, ◌+◌, ◌-◌, ◌*◌, ◌/◌, ◌≤◌, ◌<◌, length, pos};
 ghost use Rattle.std.proofs.lemmas.List.Edits.{sets};
 ghost use Rattle.lists.specs.Lists.{count, gather, part, cleared};

@@ -1,4 +1,6 @@
 // The whole engine on a sheet of any length: 01, "Sheets and limits".
+#![tactic(auto)]
+
 ghost use Rattle.std.specs.Prelude.{◌≡◌, ◌≤◌};
 ghost use Rattle.reader.specs.Reading.{sheet_of};
 ghost use Rattle.rules.specs.Calls.{given, buffers, WholeCall, SheetCall};

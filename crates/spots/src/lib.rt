@@ -1,4 +1,6 @@
 // A line of OBJ text, byte after byte: where each leads, from the spot at which it stands.
+#![tactic(auto)]
+
 ghost use Rattle.std.specs.Prelude.{◌≡◌, ◌+◌, ◌-◌, ◌*◌};
 ghost use Rattle.lists.specs.Lists.{pick};
 ghost use Rattle.spots.specs.Spots.{grows};

@@ -1,4 +1,5 @@
 // Plates made elsewhere: a claimed result is held to our faces, up to turning their corners round, and to the exact limits of the cage, within a tolerance.
+#![tactic(auto)]
 
 pub mod corners;
 pub mod fractions;

@@ -1,4 +1,6 @@
 // Sine and cosine from a table for k / m of a half turn, m from 3 to the largest valence.
+#![tactic(auto)]
+
 ghost use Rattle.std.specs.Prelude.{◌≡◌, ◌+◌, ◌≤◌, ◌<◌, pos, get_or};
 ghost use Rattle.turns.specs.Table.{place, cos_table, sin_table, Has};
 ghost use Rattle.turns.specs.Turns.{most_valence, entry, half_cosine, half_sine, cosine, sine};

@@ -1,4 +1,6 @@
 // Points of three floats, by value, and their operators as the Rust has them.
+#![tactic(auto)]
+
 ghost use Rattle.std.specs.Prelude.{◌≡◌, to_bits};
 ghost use Rattle.std.specs.Float.{binary32};
 ghost use Rattle.vectors.specs.Narrow.{narrowed};

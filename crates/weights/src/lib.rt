@@ -1,4 +1,6 @@
 // docs/RULES.md, Positions: the weights of a vertex rule and of an edge, and the points that they give. The rules in f32; their twins in whole micrometres.
+#![tactic(auto)]
+
 pub mod micrometres;
 pub mod points;
 

@@ -1,0 +1,10 @@
+use mathlib.Core.Path.{refl}
+use native.Mathlib.Omega.{arith}
+use borrow.Author.Tests.{lt-ltb, le-ltb}
+use Rattle.whole.proofs.under.Goals as goal
+
+pub returns-then-a-b : goal.returns-then-a-b
+returns-then-a-b c = rw (lt-ltb _ _ c.if-a-b.true) (refl, omega arith)
+
+pub returns-else-a-b : goal.returns-else-a-b
+returns-else-a-b c = rw (le-ltb _ _ c.if-a-b.false) (refl, omega arith)
