@@ -15,14 +15,14 @@ use rules::{Counts, Outcome, Refusal};
 use station::{Fault, Verdict};
 
 // A number of the text, and the place after it.
-#[derive(Drop)]
+#[derive(Clone, Copy)]
 struct Figure {
     size: u32,
     next: usize,
 }
 
 // What a listing says of its counts, and whether it is a listing to the byte.
-#[derive(Drop)]
+#[derive(Clone, Copy)]
 pub struct Seen {
     pub whole: bool,
     pub counts: Counts,

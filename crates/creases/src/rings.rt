@@ -16,7 +16,7 @@ use faces::walks::{Step, Trip, next_corner, prev_corner};
 use marks::mark;
 
 // The sharp edges met: how many, and the far ends of the first two.
-#[derive(Drop)]
+#[derive(Clone, Copy)]
 pub struct Met {
     pub n: usize,
     pub a: u32,
@@ -57,7 +57,7 @@ pub fn tallied(words: &[u32], marks: usize, s: usize, k: usize) -> usize
 }
 
 // What the walk on finds, and the sharp edges that it meets.
-#[derive(Drop)]
+#[derive(Clone, Copy)]
 struct Walked {
     trip: Trip,
     met: Met,
@@ -116,7 +116,7 @@ fn sharp_on(
 }
 
 // The ring with the sharp and rim edges in it: how many there are, and the far ends of the first two.
-#[derive(Drop)]
+#[derive(Clone, Copy)]
 pub struct SharpRing {
     pub n: usize,
     pub creases: usize,
@@ -125,7 +125,7 @@ pub struct SharpRing {
 }
 
 // What the way back adds: how many there are now, and how many of its sides are sharp.
-#[derive(Drop)]
+#[derive(Clone, Copy)]
 pub struct Rest {
     pub n: usize,
     pub sharp: usize,

@@ -7,7 +7,7 @@ ghost use Rattle.faces.specs.Faces.{at, of_link, face_at, vnum_of, next_face_of,
 use crate::sides::{FaceNo, Link, VertNo, decode};
 
 // A face by value: three corners, and what lies across the side that leaves each.
-#[derive(Drop)]
+#[derive(Clone, Copy)]
 pub struct Face {
     pub v0: VertNo,
     pub v1: VertNo,
@@ -18,7 +18,7 @@ pub struct Face {
 }
 
 // Which corner a vertex is.
-#[derive(Drop)]
+#[derive(Clone, Copy)]
 pub enum Spot {
     First,
     Second,
@@ -27,7 +27,7 @@ pub enum Spot {
 }
 
 // What lies across a side at a vertex; absent where the vertex is not on the face.
-#[derive(Drop)]
+#[derive(Clone, Copy)]
 pub enum Across {
     To(FaceNo),
     Rim,
@@ -35,7 +35,7 @@ pub enum Across {
 }
 
 // A vertex that may be absent.
-#[derive(Drop)]
+#[derive(Clone, Copy)]
 pub enum Vert {
     Is(VertNo),
     Absent,

@@ -11,7 +11,7 @@ use crate::sides::{backward, onward};
 use crate::walks::{Step, Trip, next_corner, prev_corner};
 
 // The ring of a vertex: the first n of the numbers that were lent for it are its neighbours, in the order that docs/RULES.md has for an inner or a rim vertex.
-#[derive(Drop)]
+#[derive(Clone, Copy)]
 pub struct Ring {
     pub n: usize,
     pub rim: bool,

@@ -5,14 +5,14 @@ ghost use Rattle.faces.specs.Faces.{face_link};
 ghost use Rattle.faces.specs.Words.{link_of};
 
 // A vertex number and a face number are distinct kinds.
-#[derive(Drop)]
+#[derive(Clone, Copy)]
 pub struct VertNo(pub u32);
 
-#[derive(Drop)]
+#[derive(Clone, Copy)]
 pub struct FaceNo(pub u32);
 
 // What lies across a side.
-#[derive(Drop)]
+#[derive(Clone, Copy)]
 pub enum Link {
     To(FaceNo),
     Rim,

@@ -8,7 +8,7 @@ ghost use Rattle.faces.specs.Rings.{Walkable, step_of, trip_of, rim_turn, turn_o
 use crate::sides::backward;
 
 // A walk is back at the corner where it began, off the rim, or on a further corner.
-#[derive(Drop)]
+#[derive(Clone, Copy)]
 pub enum Step {
     Home,
     Off,
@@ -54,7 +54,7 @@ pub fn prev_corner(words: &[u32], links: usize, home: usize, s: usize) -> Step
 }
 
 // What a walk finds: after so many faces it is back; after so many it is off the rim, with the last corner; or it passes more than there are.
-#[derive(Drop)]
+#[derive(Clone, Copy)]
 pub enum Trip {
     Closed(usize),
     Ended(usize, usize),
@@ -116,7 +116,7 @@ fn by_prev(words: &[u32], links: usize, nf: usize, s: usize) -> Trip
 }
 
 // How the faces lie round a vertex: so many round an inner one; on the rim so many, and the end corner that `next_face` leads to.
-#[derive(Drop)]
+#[derive(Clone, Copy)]
 pub enum Turn {
     Inner(usize),
     Rim(usize, usize),

@@ -11,7 +11,7 @@ use rules::Refusal;
 pub mod list;
 pub mod size;
 
-#[derive(Drop)]
+#[derive(Clone, Copy)]
 pub enum Check {
     Pass,
     No(Refusal),

@@ -14,28 +14,28 @@ mod reading;
 mod writing;
 
 // So many bytes stand at the front of the buffer, or a refusal.
-#[derive(Drop)]
+#[derive(Clone, Copy)]
 pub enum Text {
     Bytes(u32),
     Refused(Refusal),
 }
 
 // How many vertices and faces were read, or a refusal.
-#[derive(Drop)]
+#[derive(Clone, Copy)]
 pub enum Lists {
     Are { vertices: u32, faces: u32 },
     Refused(Refusal),
 }
 
 // How many numbers a text has, or the place where it goes wrong.
-#[derive(Drop)]
+#[derive(Clone, Copy)]
 enum Seen {
     Numbers { coords: u32, corners: u32 },
     Wrong(u32),
 }
 
 // The number that a byte ends.
-#[derive(Drop)]
+#[derive(Clone, Copy)]
 enum Held {
     Nothing,
     Plus(u32),
@@ -44,14 +44,14 @@ enum Held {
 }
 
 // A number that digits have made, and the place after them.
-#[derive(Drop)]
+#[derive(Clone, Copy)]
 struct Reached {
     n: u32,
     at: usize,
 }
 
 // A spot, and the place of the byte that it awaits.
-#[derive(Drop)]
+#[derive(Clone, Copy)]
 struct Stand {
     spot: Spot,
     at: usize,

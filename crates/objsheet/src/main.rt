@@ -10,7 +10,7 @@ use obj::Lists;
 use rules::Refusal;
 use writer::Written;
 
-#[derive(Drop)]
+#[derive(Clone, Copy)]
 enum Levels {
     Are(u32),
     NoNumber,

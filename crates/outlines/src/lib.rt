@@ -16,13 +16,13 @@ mod pieces;
 mod rim;
 
 // How many loops, and how many vertices in all of them.
-#[derive(Drop)]
+#[derive(Clone, Copy)]
 pub struct Outline {
     pub loops: u32,
     pub listed: u32,
 }
 
-#[derive(Drop)]
+#[derive(Clone, Copy)]
 pub enum Traced {
     Success(Outline),
     Refused(Refusal),

@@ -8,7 +8,7 @@ ghost use Rattle.rules.specs.Sheets.{signed as signed_of};
 ghost use Rattle.reader.specs.Reading.{sheet_of, vertex_bytes, face_bytes};
 
 // What the trailer says, or refusal 15.
-#[derive(Drop)]
+#[derive(Clone, Copy)]
 pub enum Sheet {
     Is {
         vertices: u32,

@@ -5,14 +5,14 @@ ghost use Rattle.std.specs.Prelude.{◌≡◌};
 ghost use Rattle.rules.specs.Answers.{answer};
 
 // 01, "Refusal numbers": the number, and the place where it was found.
-#[derive(Drop)]
+#[derive(Clone, Copy)]
 pub struct Refusal {
     pub number: u32,
     pub place: u32,
 }
 
 // Vertices, faces and rim sides of the last level.
-#[derive(Drop)]
+#[derive(Clone, Copy)]
 pub struct Counts {
     pub vertices: u32,
     pub faces: u32,
@@ -20,7 +20,7 @@ pub struct Counts {
 }
 
 // One outcome per call: `answer` of specs/Answers gives the paper's five numbers for each case.
-#[derive(Drop)]
+#[derive(Clone, Copy)]
 pub enum Outcome {
     Success(Counts),
     Refused(Refusal),

@@ -10,7 +10,7 @@ use reader::{Sheet, coords_from, face_block, read_sheet, vertex_block, words_fro
 use rules::{Outcome, Refusal};
 
 // The engine that runs: the one that keeps links between faces, or the plain one, which looks through the face list. Both promise the same.
-#[derive(Drop)]
+#[derive(Clone, Copy)]
 pub enum Engine {
     Linked,
     Plain,

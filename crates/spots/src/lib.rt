@@ -7,7 +7,7 @@ ghost use Rattle.spots.specs.Spots.{grows};
 ghost use Rattle.spots.specs.Spots.{turn as turn_of, ends as end_of, is_stuck as is_stuck_at, is_line as is_line_at};
 
 // Where in a line the next byte stands.
-#[derive(Drop)]
+#[derive(Clone, Copy)]
 pub enum Spot {
     // a line may begin, or the text end
     Line,

@@ -18,7 +18,7 @@ use weights::Stage;
 use weights::micrometres::{Rule, mix};
 
 // A point over one denominator, in raised numbers.
-#[derive(Drop)]
+#[derive(Clone, Copy)]
 pub struct Over3 {
     pub x: u64,
     pub y: u64,

@@ -16,14 +16,14 @@ ghost use Rattle.station.specs.Acceptance.{held, StationCall};
 use rules::{Outcome, Refusal};
 
 // What is wrong first: the counts; the corners of a face; a coordinate, with the least whole tolerance at which it would pass.
-#[derive(Drop)]
+#[derive(Clone, Copy)]
 pub enum Fault {
     Counts,
     Face(u32),
     Far(u32, u32),
 }
 
-#[derive(Drop)]
+#[derive(Clone, Copy)]
 pub enum Verdict {
     Yes,
     No(Fault),

@@ -18,7 +18,7 @@ use vectors::Vec3;
 use weights::points::{point, put, ring_points};
 
 // S and T.
-#[derive(Drop)]
+#[derive(Clone, Copy)]
 pub struct Tangents {
     pub s: Vec3,
     pub t: Vec3,

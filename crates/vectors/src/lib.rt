@@ -9,7 +9,7 @@ ghost use Rattle.vectors.specs.Vectors.{plus, minus, negated, scaled, origin, mi
 pub mod narrow;
 
 #[repr(C)]
-#[derive(Drop)]
+#[derive(Clone, Copy)]
 pub struct Vec3 {
     pub x: f32,
     pub y: f32,

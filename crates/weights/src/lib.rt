@@ -14,14 +14,14 @@ use faces::sides::VertNo;
 use vectors::Vec3;
 
 // Whether a vertex is moved to the next level, or to its limit.
-#[derive(Drop)]
+#[derive(Clone, Copy)]
 pub enum Stage {
     Refining,
     Limit,
 }
 
 // A vertex rule: a weight on each point of the ring, or on its first and its last.
-#[derive(Drop)]
+#[derive(Clone, Copy)]
 pub enum Rule {
     Ring(f32),
     Rim(f32),

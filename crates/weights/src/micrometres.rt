@@ -13,14 +13,14 @@ use faces::sides::VertNo;
 use whole::{put, raised_at, rounded};
 
 // A weight as a fraction of one whole: `each` out of `all`.
-#[derive(Drop)]
+#[derive(Clone, Copy)]
 pub struct Share {
     pub each: u64,
     pub all: u64,
 }
 
 // A vertex rule: a weight on each point of the ring, or on its first and its last.
-#[derive(Drop)]
+#[derive(Clone, Copy)]
 pub enum Rule {
     Ring(Share),
     Rim(Share),
@@ -127,7 +127,7 @@ fn loop_gamma(n: usize) -> Share
 }
 
 // A point of raised coordinates.
-#[derive(Drop)]
+#[derive(Clone, Copy)]
 pub struct Whole3 {
     pub x: u64,
     pub y: u64,

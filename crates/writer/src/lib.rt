@@ -15,7 +15,7 @@ ghost use Rattle.writer.specs.Writing.{WriteCall};
 use limits::Check;
 use rules::{Outcome, Refusal};
 
-#[derive(Drop)]
+#[derive(Clone, Copy)]
 pub enum Written {
     // so many bytes stand at the front of the buffer
     Bytes(u32),

@@ -1,0 +1,5 @@
+use borrow.Author.Rules.{rules}
+use Rattle.faces.proofs.face.next_vert.Goals as goal
+
+pub returns : goal.returns
+returns c = rw (c.vert_at.ensures, c.vnum.ensures)

@@ -1,0 +1,17 @@
+use mathlib.Core.Path.{◌≡◌, sym, ap, ◌∙◌}
+use Prim.Native.Nat.{◌+◌, ◌-◌, ◌*◌, ◌≤◌, ◌<◌}
+use native.Mathlib.Omega.{arith}
+use borrow.Author.Rules.{rules}
+use Rattle.rules.specs.Mesh.{here, walk, prev_corner}
+use Rattle.faces.specs.Words.{links_in}
+use Rattle.faces.specs.Rings.{step_of, trip_of}
+use Rattle.faces.proofs.Links.{prev-at, prev-below}
+use Rattle.faces.proofs.Trips.{trip_from, trip_on, trip-starts, trip-turn, trip-long}
+use Rattle.faces.proofs.walks.by_prev.Given as goal
+
+abbrev pub invariant-loop-n : goal.invariant-loop-n
+invariant-loop-n l = (l.at < 3 * l.nf) × (l.n ≤ l.nf) ×
+    (trip_of (walk (prev_corner (links_in l.words l.links (3 * l.nf)) l.s) l.nf (here l.s)) ≡ trip_from l.n 0 (walk (prev_corner (links_in l.words l.links (3 * l.nf)) l.s) (l.nf - l.n) (here l.at)))
+
+abbrev pub decreases-loop-n : goal.decreases-loop-n
+decreases-loop-n l = l.nf - l.n
