@@ -1,0 +1,16 @@
+use Prim.Native.Nat.{ℕ, ◌+◌, ◌-◌, ◌*◌, ◌≤◌, ◌<◌}
+use mathlib.Core.Path.{◌≡◌, refl, ap, ◌∙◌}
+use lib.ListN.{length, get_or}
+use lib.Seq.{sets, length-sets}
+use Rattle.lists.specs.Lists.{count, gather, part}
+use Rattle.levels.specs.Level.{links_by}
+use Rattle.levels.proofs.Rows.{links-more, links-small}
+use borrow.Author.Rules.{rules}
+use native.Mathlib.Omega.{arith}
+use Rattle.levels.proofs.child_links.Given as goal
+
+abbrev pub invariant-loop-f : goal.invariant-loop-f
+invariant-loop-f l = (l.f ≤ l.nf) × ((length l.words ≡ length l.initial.words) × (l.words ≡ sets l.initial.words l.to (gather (links_by (part l.links (3 * l.nf) l.initial.words)) (count 0 l.f))))
+
+abbrev pub decreases-loop-f : goal.decreases-loop-f
+decreases-loop-f l = l.nf - l.f

@@ -1,0 +1,26 @@
+use Prim.Native.Nat.{◌-◌, ◌*◌, ◌≤◌}
+use mathlib.Core.Path.{◌≡◌, refl, ap, ◌∙◌}
+use lib.ListN.{length}
+use lib.Seq.{sets, length-sets}
+use Rattle.lists.specs.Lists.{count, gather, part}
+use Rattle.levels.specs.Level.{children_by}
+use Rattle.levels.proofs.Rows.{children-more}
+use borrow.Author.Rules.{rules}
+use native.Mathlib.Omega.{arith}
+use Rattle.levels.proofs.children.Goals as goal
+
+pub loop-f-init : goal.loop-f-init
+loop-f-init c = (omega arith, (refl, refl))
+
+pub loop-f-preserved : goal.loop-f-preserved
+loop-f-preserved c = let a = c.args in
+    let l = c.loop-f in
+    let r = c.requires.apart in
+    let e =
+    children-more a.words.now a.at a.to a.nf l.f (omega arith) r.0 a.mids r.1 l.words c.put_children.new.words l.invariant.1.1
+    c.put_children.ensures in
+    (omega arith, (ap length e ∙ simp length-sets, e))
+
+pub returns : goal.returns
+returns c = let e : c.loop-f.f ≡ c.args.nf = omega arith in
+    c.loop-f.invariant.1.1 ∙ rw e

@@ -1,0 +1,18 @@
+use Prim.Native.Nat.{◌+◌, ◌-◌, ◌≤◌, ◌<◌}
+use mathlib.Core.Path.{◌≡◌, refl, ◌∙◌}
+use mathlib.Core.List.{map}
+use lib.ListN.{length, get_or, take, length-set}
+use lib.Seq.{sets, take_all}
+use Rattle.lists.specs.Lists.{part}
+use Rattle.lists.proofs.Stores.{length_part}
+use Rattle.rules.specs.Mesh.{restart}
+use Rattle.levels.proofs.Starts.{start_word, start-more}
+use borrow.Author.Rules.{rules}
+use native.Mathlib.Omega.{arith}
+use Rattle.levels.proofs.old_starts.Given as goal
+
+abbrev pub invariant-loop-u : goal.invariant-loop-u
+invariant-loop-u l = (l.u ≤ l.v) × ((length l.words ≡ length l.initial.words) × (l.words ≡ sets l.initial.words l.to (map restart (take l.u (part l.starts l.v l.initial.words)))))
+
+abbrev pub decreases-loop-u : goal.decreases-loop-u
+decreases-loop-u l = l.v - l.u

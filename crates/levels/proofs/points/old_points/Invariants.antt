@@ -1,0 +1,18 @@
+use borrow.Author.Rules.{rules}
+use Prim.Native.Nat.{◌-◌, ◌*◌, ◌≤◌}
+use mathlib.Core.Path.{◌≡◌, refl, ap, ◌∙◌}
+use native.Mathlib.Omega.{arith}
+use lib.ListN.{length}
+use lib.Seq.{sets, length-sets}
+use Rattle.lists.specs.Lists.{count, gather, part}
+use Rattle.rules.specs.Position.{single}
+use Rattle.weights.specs.Lent.{listed}
+use Rattle.levels.specs.Moves.{old_point}
+use Rattle.levels.proofs.Moves.{old-more}
+use Rattle.levels.proofs.points.old_points.Given as goal
+
+abbrev pub invariant-loop-u : goal.invariant-loop-u
+invariant-loop-u l = (l.u ≤ l.nv) × ((length l.work ≡ length l.initial.work) × (l.work ≡ sets l.initial.work l.to (gather (old_point single l.words l.at l.nf (part l.from (3 * l.nv) l.initial.work) l.nv) (count 0 l.u))))
+
+abbrev pub decreases-loop-u : goal.decreases-loop-u
+decreases-loop-u l = l.nv - l.u

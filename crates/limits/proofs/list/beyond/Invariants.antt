@@ -1,0 +1,17 @@
+use borrow.Author.Rules.{rules}
+use borrow.Author.Count.{below_more}
+use borrow.Author.Tests.{le-leb, lt-leb}
+use native.Mathlib.Omega.{arith}
+use Prim.Native.Nat.{ℕ, ◌-◌, ◌≤◌, ◌<◌}
+use mathlib.Core.Path.{◌≡◌, sym, ◌∙◌}
+use mathlib.Core.Bool.{false}
+use lib.ListN.{length, get_or}
+use Rattle.limits.proofs.Search.{find-here, find-nowhere}
+use lib.Dec.{leb}
+use Rattle.limits.proofs.list.beyond.Given as goal
+
+abbrev pub invariant-loop-i : goal.invariant-loop-i
+invariant-loop-i l = (l.i ≤ length l.indices) × ((j : ℕ) → j < l.i → leb l.v (get_or l.indices j 0) ≡ false)
+
+abbrev pub decreases-loop-i : goal.decreases-loop-i
+decreases-loop-i l = length l.indices - l.i

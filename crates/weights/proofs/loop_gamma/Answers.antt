@@ -1,0 +1,6 @@
+use borrow.Author.Rules.{rules}
+use Rattle.weights.proofs.Floats.{one, three, eight}
+use Rattle.weights.proofs.loop_gamma.Goals as goal
+
+pub returns : goal.returns
+returns c = cc (one, three, eight)

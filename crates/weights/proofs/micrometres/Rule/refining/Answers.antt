@@ -1,0 +1,9 @@
+use mathlib.Core.Path.{refl}
+use borrow.Author.Rules.{rules}
+use Rattle.weights.proofs.micrometres.Rule.refining.Goals as goal
+
+pub returns-then-rim : goal.returns-then-rim
+returns-then-rim c = rw c.if-rim.true refl
+
+pub returns-else-rim : goal.returns-else-rim
+returns-else-rim c = cc

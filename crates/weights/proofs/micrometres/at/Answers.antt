@@ -1,0 +1,14 @@
+use native.Mathlib.Omega.{arith}
+use borrow.Author.Rules.{rules}
+use Rattle.whole.proofs.Sums.{lower-raise}
+use Rattle.weights.proofs.micrometres.at.Goals as goal
+
+pub raised_at-requires : goal.raised_at-requires
+raised_at-requires c = let a = c.args in
+    let h = c.requires in
+    (omega (arith, h.1.room), h.1.near a.c h.0)
+
+pub returns : goal.returns
+returns c = let a = c.args in
+    let h = c.requires in
+    (rw c.raised_at.ensures.0 (lower-raise (h.1.near a.c h.0)), c.raised_at.ensures.1)
