@@ -23,9 +23,8 @@ put_links-requires c = let a = c.args in
 pub loop-f-preserved : goal.loop-f-preserved
 loop-f-preserved c = let a = c.args in
     let l = c.loop-f in
-    let r = c.requires.1 in
     let e =
-    links-more a.words.now a.links a.to a.nf l.f (omega arith) r.0 l.words c.put_links.new.words l.invariant.1.1
+    links-more a.words.now a.links a.to a.nf l.f (omega arith) c.requires.apart l.words c.put_links.new.words l.invariant.1.1
     c.put_links.ensures in
     (omega arith, (ap length e ∙ simp length-sets, e))
 

@@ -15,9 +15,8 @@ loop-f-init c = (omega arith, (refl, refl))
 pub loop-f-preserved : goal.loop-f-preserved
 loop-f-preserved c = let a = c.args in
     let l = c.loop-f in
-    let r = c.requires.apart in
     let e =
-    children-more a.words.now a.at a.to a.nf l.f (omega arith) r.0 a.mids r.1 l.words c.put_children.new.words l.invariant.1.1
+    children-more a.words.now a.at a.to a.nf l.f (omega arith) c.requires.apart.0 a.mids c.requires.apart.1 l.words c.put_children.new.words l.invariant.1.1
     c.put_children.ensures in
     (omega arith, (ap length e ∙ simp length-sets, e))
 

@@ -15,6 +15,7 @@ use Rattle.levels.proofs.new_starts.Lts
 use Rattle.levels.proofs.new_starts.Reads
 use Rattle.levels.proofs.new_starts.Tie
 use Rattle.levels.proofs.new_starts.Goals as goal
+use Rattle.levels.proofs.new_starts.Goals.{then-first_met, else-first_met}
 
 abbrev After-first_met : Type 0
 After-first_met = Lts.After-first_met Tie.the-claims Reads.Pre Reads.Post goal.the-invariant-loop-s goal.the-decreases-loop-s Tie.handed_clauses
@@ -62,22 +63,22 @@ loop-s-preserved c = let a = c.args in
     let w = a.words.now in
     let p = first_met (links_in w a.links a.sides) in
     let h : l.s < a.sides = omega arith in
-    ⊎_elim
-    (λ came.
-    let t : p l.s ≡ true = sym (test c.before) ∙ came.0.taken in (
+    elim c.if-first_met.branch [
+    then-first_met came ↦ (
+    let t : p l.s ≡ true = sym (test c.before) ∙ came.if-first_met.true in (
       omega arith,
       (
-        rw came.2 (simp length-set l.invariant.1.0),
+        rw came.words-is (simp length-set l.invariant.1.0),
         (
-          came.3 ∙ omega (arith, l.invariant.1.1.0, kept-count start_of 1 (λ _. refl) p w a.to a.sides l.s h t),
-          came.2 ∙ rw came.1.ensures (met-more w a.links a.to a.sides l.s r.room.0 r.apart h l.words l.k l.invariant.1.1.1 l.invariant.1.1.0 t),
+          came.k-is ∙ omega (arith, l.invariant.1.1.0, kept-count start_of 1 (λ _. refl) p w a.to a.sides l.s h t),
+          came.words-is ∙ rw came.in_fourth.ensures (met-more w a.links a.to a.sides l.s r.room.0 r.apart h l.words l.k l.invariant.1.1.1 l.invariant.1.1.0 t),
         ),
       ),
     ))
-    (λ came.
-    let e = kept_same start_of 1 (λ _. refl) p w a.to a.sides l.s h (sym (test c.before) ∙ came.0.left) in
-    (omega arith, (rw came.1 l.invariant.1.0, rw e (came.2 ∙ l.invariant.1.1.0, came.1 ∙ l.invariant.1.1.1))))
-    c.if-first_met.branch
+    | else-first_met came ↦ (
+    let e = kept_same start_of 1 (λ _. refl) p w a.to a.sides l.s h (sym (test c.before) ∙ came.if-first_met.false) in
+    (omega arith, (rw came.words-is l.invariant.1.0, rw e (came.k-is ∙ l.invariant.1.1.0, came.words-is ∙ l.invariant.1.1.1))))
+    ]
 
 pub returns : goal.returns
 returns c = let a = c.args in

@@ -27,13 +27,13 @@ pub loop-s-init : goal.loop-s-init
 loop-s-init c = (omega arith, (refl, (refl, refl)))
 
 pub overflow_add-v : goal.overflow_add-v
-overflow_add-v c = omega (arith, few c.before.before.before)
+overflow_add-v c = omega (arith, few c.before.before)
 
 pub overflow_cast-v : goal.overflow_cast-v
-overflow_cast-v c = omega (arith, few c.before.before.before)
+overflow_cast-v c = omega (arith, few c.before.before)
 
 pub counted-k-requires : goal.counted-k-requires
-counted-k-requires c = omega (arith, few c.before.before.before.before.before)
+counted-k-requires c = omega (arith, few c.before.before.before.before)
 
 pub loop-s-preserved : goal.loop-s-preserved
 loop-s-preserved c = let a = c.args in

@@ -54,7 +54,7 @@ edge_inner-requires c = let a = c.args in
     let d = corner-small a.words.now a.at a.nf a.nv r.mesh.0 (backward a.s) (back_below a.s a.nf r.mesh.1) in
     let t = across-below a.words.now a.at a.nf a.nv r.mesh.0 a.s r.mesh.1 c.if-w-eq0.false in
     let e = corner-small a.words.now a.at a.nf a.nv r.mesh.0 (backward (get_or a.words.now (a.at + 3 * a.nf + a.s) 0 - 1)) (back_below (get_or a.words.now (a.at + 3 * a.nf + a.s) 0 - 1) a.nf t) in
-    rw (lent_is a.work.now a.from (3 * a.nv), c.onward.ensures, c.backward.ensures, c.backward-else-w-eq0.ensures) ((record { room = omega arith }, record { room = omega arith }), (record { room = omega arith }, record { room = omega arith }))
+    rw (lent_is a.work.now a.from (3 * a.nv), c.onward.ensures, c.backward.ensures, c.backward-else-w-eq0.ensures) (record { there = (record { room = omega arith }, record { room = omega arith }); there_2 = (record { room = omega arith }, record { room = omega arith }) })
 
 pub returns-then-w-eq0 : goal.returns-then-w-eq0
 returns-then-w-eq0 c = let a = c.args in

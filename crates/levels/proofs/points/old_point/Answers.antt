@@ -28,11 +28,11 @@ one_ring-ring-requires c = let a = c.args in
     let r = c.requires in
     (ring-asks a.words.now a.at a.nf a.nv r.mesh.0 a.u r.mesh.1, omega arith)
 
-fits : (k : After-one_ring-ring) → k.one_ring-ring.result.n ≤ length k.one_ring-ring.new.1.1.1.1.1.0
+fits : (k : After-one_ring-ring) → k.one_ring-ring.result.n ≤ length k.one_ring-ring.new.out
 fits k =
     let a = k.args in
     let r = k.requires in
-    ring-fits a.words.now a.at a.nf a.nv r.mesh.0 a.u r.mesh.1 k.one_ring-ring.result k.one_ring-ring.ensures.ring (replicate most_valence 0) k.one_ring-ring.new.1.1.1.1.1.0 (omega arith) k.one_ring-ring.ensures.out
+    ring-fits a.words.now a.at a.nf a.nv r.mesh.0 a.u r.mesh.1 k.one_ring-ring.result k.one_ring-ring.ensures.ring (replicate most_valence 0) k.one_ring-ring.new.out (omega arith) k.one_ring-ring.ensures.out
 
 pub slice_bounds-vs-end : goal.slice_bounds-vs-end
 slice_bounds-vs-end c = fits c.before.before.before
@@ -45,10 +45,10 @@ vertex-requires c = let a = c.args in
     let r = c.requires in
     let l : 3 * a.nv ≤ length (part a.from (3 * a.nv) a.work.now) = omega (arith, length_part a.work.now a.from (3 * a.nv) r.room) in
     rw (lent_is a.work.now a.from (3 * a.nv))
-    (old-single a.words.now a.at a.nf a.nv r.mesh.0 a.u r.mesh.1 c.one_ring-ring.result c.one_ring-ring.ensures.ring (replicate most_valence 0) c.one_ring-ring.new.1.1.1.1.1.0 (omega arith) c.one_ring-ring.ensures.out l)
+    (old-single a.words.now a.at a.nf a.nv r.mesh.0 a.u r.mesh.1 c.one_ring-ring.result c.one_ring-ring.ensures.ring (replicate most_valence 0) c.one_ring-ring.new.out (omega arith) c.one_ring-ring.ensures.out l)
 
 pub returns : goal.returns
 returns c = let a = c.args in
     let r = c.requires in
-    moved-is a.words.now a.at a.nf a.nv r.mesh.0 a.u r.mesh.1 c.one_ring-ring.result c.one_ring-ring.ensures.ring (replicate most_valence 0) c.one_ring-ring.new.1.1.1.1.1.0 (omega arith) c.one_ring-ring.ensures.out single refining (part a.from (3 * a.nv) a.work.now)
+    moved-is a.words.now a.at a.nf a.nv r.mesh.0 a.u r.mesh.1 c.one_ring-ring.result c.one_ring-ring.ensures.ring (replicate most_valence 0) c.one_ring-ring.new.out (omega arith) c.one_ring-ring.ensures.out single refining (part a.from (3 * a.nv) a.work.now)
     (listed c.vertex.result) (rw (lent_is a.work.now a.from (3 * a.nv)) at c.vertex.ensures)

@@ -42,7 +42,7 @@ pub loop-u-preserved : goal.loop-u-preserved
 loop-u-preserved c = let a = c.args in
     let r = c.requires in
     let l = c.loop-u in
-    let e = old-more single a.words.now a.at a.nf a.nv a.work.now a.from a.to r.room l.u (omega arith) l.work l.invariant.1.1 c.put.new.1.0 (listed c.old_point-p.result) c.put.ensures c.old_point-p.ensures in
+    let e = old-more single a.words.now a.at a.nf a.nv a.work.now a.from a.to r.room l.u (omega arith) l.work l.invariant.1.1 c.put.new.xs (listed c.old_point-p.result) c.put.ensures c.old_point-p.ensures in
     (omega arith, (ap length e ∙ simp length-sets, e))
 
 pub returns : goal.returns

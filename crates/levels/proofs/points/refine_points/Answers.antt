@@ -9,11 +9,11 @@ use Rattle.levels.proofs.points.refine_points.Goals as goal
 pub edge_points-requires : goal.edge_points-requires
 edge_points-requires c = let a = c.args in
     let r = c.requires in
-    let p : Placed (length c.old_points.new.1.1.1.1.0) a.from a.to a.nv (edges_in a.words.now a.at a.nf) =
+    let p : Placed (length c.old_points.new.work) a.from a.to a.nv (edges_in a.words.now a.at a.nf) =
     record { old = omega (arith, r.room.old); new = omega (arith, r.room.new); apart = r.room.apart } in
     record { mesh = r.mesh; room = p }
 
 pub returns : goal.returns
 returns c = let a = c.args in
     let r = c.requires in
-    points-are single a.words.now a.at a.nf a.nv a.work.now a.from a.to r.room c.old_points.new.1.1.1.1.0 c.edge_points.new.1.1.1.1.0 c.old_points.ensures c.edge_points.ensures
+    points-are single a.words.now a.at a.nf a.nv a.work.now a.from a.to r.room c.old_points.new.work c.edge_points.new.work c.old_points.ensures c.edge_points.ensures

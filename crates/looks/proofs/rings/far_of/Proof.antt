@@ -48,7 +48,7 @@ returns c =
     let s = c.before.before.before.before.before.before.before in
     let a = s.args in
     let v = vert (get_or a.words.now (a.at + a.s) 0) in
-    c.number_of_lem.ensures
+    c.number_of.ensures
     ∙ ap number_of (c.before.other-vert.ensures
     ∙ ap₂ (λ (f : Face) (z : ℕ). other_vert_of f v (vert (get_or a.words.now (a.at + z) 0))) c.before.before.bare.ensures c.before.before.before.before.onward.ensures
     ∙ other-vert-is a.words.now a.at a.nf s.requires.0 a.s s.requires.1)

@@ -36,7 +36,7 @@ returns c =
     let s = c.before.before.before.before.before in
     let a = s.args in
     let v = vert (get_or a.words.now (a.at + a.s) 0) in
-    c.number_of_lem.ensures
+    c.number_of.ensures
     ∙ ap number_of (c.before.prev-vert.ensures ∙ ap (λ (f : Face). prev_vert_of f v) c.before.before.bare.ensures
     ∙ prev-vert-is a.words.now a.at a.nf s.requires.0 a.s s.requires.1)
 
