@@ -76,7 +76,7 @@ edge_inner-requires c = let a = c.args in
     let d = corner-small a.words.now a.at a.nf a.nv r.mesh.0.movable (backward a.s) (back_below a.s a.nf r.mesh.1) in
     let t = across-below a.words.now a.at a.nf a.nv r.mesh.0.movable a.s r.mesh.1 c.if-w-eq0.false in
     let e = corner-small a.words.now a.at a.nf a.nv r.mesh.0.movable (backward (get_or a.words.now (a.at + 3 * a.nf + a.s) 0 - 1)) (back_below (get_or a.words.now (a.at + 3 * a.nf + a.s) 0 - 1) a.nf t) in
-    rw (lent_is a.work.now a.from (3 * a.nv), c.onward.ensures, c.backward.ensures, c.backward-2.ensures) ((readable l r.near p, readable l r.near q), (readable l r.near d, readable l r.near e))
+    rw (lent_is a.work.now a.from (3 * a.nv), c.onward.ensures, c.backward.ensures, c.backward-2.ensures) (record { readable = (readable l r.near p, readable l r.near q); readable_2 = (readable l r.near d, readable l r.near e) })
 
 pub returns : goal.returns
 returns c = let a = c.args in

@@ -18,6 +18,7 @@ use Rattle.creases.proofs.points.edge_points.Lts
 use Rattle.creases.proofs.points.edge_points.Reads
 use Rattle.creases.proofs.points.edge_points.Tie
 use Rattle.creases.proofs.points.edge_points.Goals as goal
+use Rattle.creases.proofs.points.edge_points.Goals.{then-first_met, else-first_met}
 
 abbrev After-first_met : Type 0
 After-first_met = Lts.After-first_met Tie.the-claims Reads.Pre Reads.Post goal.the-invariant-loop-s goal.the-decreases-loop-s Tie.handed_clauses
@@ -129,15 +130,17 @@ loop-s-preserved c = let a = c.args in
     let r = c.requires in
     let l = c.loop-s in
     let h : l.s < 3 * a.nf = omega arith in
-    ⊎_elim
-    (λ came.
-    let t : first_met (links (part a.at (3 * a.nf) a.words.now)) l.s ≡ true = sym (test c.before.before) ∙ came.0.taken in
-    let e = edge_more whole a.words.now a.at a.marks a.nf a.nv a.work.now a.from a.to r.room (sides-long a.words.now a.at a.nf a.nv r.mesh.movable) l.s h l.work l.invariant.1.1.1 c.if-first_met.work (lowered came.2.result) l.k t l.invariant.1.1.0 (came.6 ∙ came.4.ensures) came.2.ensures.0 in
-    (omega arith, (ap length e ∙ simp length-sets, (came.7 ∙ omega (arith, l.invariant.1.1.0, edge_count whole a.words.now a.at a.marks a.nf a.nv a.work.now a.from a.to r.room (sides-long a.words.now a.at a.nf a.nv r.mesh.movable) l.s h t), e))))
-    (λ came.
-    let e = edge_same whole a.words.now a.at a.marks a.nf a.nv a.work.now a.from a.to r.room (sides-long a.words.now a.at a.nf a.nv r.mesh.movable) l.s h (sym (test c.before.before) ∙ came.0.left) in
-    (omega arith, (rw came.1 l.invariant.1.0, rw e (came.2 ∙ l.invariant.1.1.0, came.1 ∙ l.invariant.1.1.1))))
-    c.if-first_met.branch
+    elim c.if-first_met.branch [
+    then-first_met came ↦ (
+      let t : first_met (links (part a.at (3 * a.nf) a.words.now)) l.s ≡ true = sym (test c.before.before) ∙ came.if-first_met.true in
+    let e = edge_more whole a.words.now a.at a.marks a.nf a.nv a.work.now a.from a.to r.room (sides-long a.words.now a.at a.nf a.nv r.mesh.movable) l.s h l.work l.invariant.1.1.1 c.if-first_met.work (lowered came.edge_point-p.result) l.k t l.invariant.1.1.0 (came.work-is ∙ came.put.ensures) came.edge_point-p.ensures.point in
+    (omega arith, (ap length e ∙ simp length-sets, (came.k-is ∙ omega (arith, l.invariant.1.1.0, edge_count whole a.words.now a.at a.marks a.nf a.nv a.work.now a.from a.to r.room (sides-long a.words.now a.at a.nf a.nv r.mesh.movable) l.s h t), e)))
+    )
+    | else-first_met came ↦ (
+      let e = edge_same whole a.words.now a.at a.marks a.nf a.nv a.work.now a.from a.to r.room (sides-long a.words.now a.at a.nf a.nv r.mesh.movable) l.s h (sym (test c.before.before) ∙ came.if-first_met.false) in
+    (omega arith, (rw came.work-is l.invariant.1.0, rw e (came.k-is ∙ l.invariant.1.1.0, came.work-is ∙ l.invariant.1.1.1)))
+    )
+    ]
 
 pub returns : goal.returns
 returns c = let a = c.args in

@@ -26,6 +26,7 @@ use Rattle.creases.proofs.rings.sharp_back.Lts
 use Rattle.creases.proofs.rings.sharp_back.Reads
 use Rattle.creases.proofs.rings.sharp_back.Tie
 use Rattle.creases.proofs.rings.sharp_back.Goals as goal
+use Rattle.creases.proofs.rings.sharp_back.Goals.{in-Home, in-Off}
 
 abbrev After-backward-c : Type 0
 After-backward-c = Lts.After-backward Tie.the-claims Reads.Pre Reads.Post goal.the-invariant-loop-t goal.the-decreases-loop-t Tie.handed_clauses
@@ -153,8 +154,12 @@ returns c = let a = c.args in
     let cs = passed (walk next a.q (here a.s)) in
     let fs = part a.corners (3 * a.nf) w in
     let q : suc l.n ≡ length cs =
-    ⊎_elim
-    (λ m. then-home next a.q a.s p.2.stops l.n l.at l.invariant.1 l.invariant.2 (stepped c.before.before ∙ m.1.given.1))
-    (λ m. then-off next a.q a.s p.2.stops l.n l.at l.invariant.1 l.invariant.2 (stepped c.before.before ∙ m.1.given.1))
-    c.match-prev_corner.branch in
+    elim c.match-prev_corner.branch [
+    in-Home m ↦ (
+      then-home next a.q a.s p.2.stops l.n l.at l.invariant.1 l.invariant.2 (stepped c.before.before ∙ m.in-Home.is)
+    )
+    | in-Off m ↦ (
+      then-off next a.q a.s p.2.stops l.n l.at l.invariant.1 l.invariant.2 (stepped c.before.before ∙ m.in-Off.is)
+    )
+    ] in
     let e : l.n + 1 ≡ length (backs fs cs) = omega (arith, length-map cs (λ s. corner fs (backward s))) in record { count = ap (λ (z : ℕ). a.from + z) e; sharp = tallied-on c.before.before ∙ ap (λ (x : List ℕ). tally (comes (marks_in w a.marks a.nf)) x) (take_all (l.n + 1) cs (omega arith)); ring = stored c.before.before.before.before.before ∙ store-all a.out.now (backs fs cs) a.from (l.n + 1) e }
