@@ -62,7 +62,7 @@ returns-then-not-passes c = let a = c.args in
     let l = c.loop-s in
     sym (l.invariant.1.1
     ∙ met-far (exact1 a.words.now a.nf a.nv a.xs.now) a.ys.now a.t c.first_met-met.result a.nv (edges_in a.words.now 0 a.nf) l.k c.new_far-v.result (below c.before.before.before.before) c.new_far-v.ensures
-    (sym c.passes.ensures ∙ not-true c.passes.result (ap not c.if-not-passes.true)))
+    (sym c.passes.ensures ∙ c.if-not-passes.true))
 
 pub counted-k-requires : goal.counted-k-requires
 counted-k-requires c = let l = c.loop-s in
@@ -77,7 +77,7 @@ loop-s-preserved c = let a = c.args in
     let p = first_met (links (part 0 (3 * a.nf) a.words.now)) in
     let es = exact1 a.words.now a.nf a.nv a.xs.now in
     let e = edges_in a.words.now 0 a.nf in
-    let y = sym c.passes.ensures ∙ not-false c.passes.result (ap not c.if-not-passes.false) in (
+    let y = sym c.passes.ensures ∙ c.if-not-passes.false in (
       omega arith,
       (
         c.counted-k.ensures ∙ ap (λ (b : Bool). l.k + bit b) (test c.before.before.before.before.before) ∙ ap (λ (x : ℕ). x + bit (p l.s)) l.invariant.1.0 ∙ sym (tally-next p l.s),

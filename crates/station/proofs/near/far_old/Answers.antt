@@ -34,14 +34,14 @@ pub returns-then-not-passes : goal.returns-then-not-passes
 returns-then-not-passes c = let a = c.args in
     let l = c.loop-u in
     sym (l.invariant.1 ∙ vertex-far (exact0 a.words.now a.nf a.nv a.xs.now) a.ys.now a.t 0 a.nv l.u c.old_far-v.result (omega arith) (here c.before.before.before)
-    (sym c.passes.ensures ∙ not-true c.passes.result (ap not c.if-not-passes.true)))
+    (sym c.passes.ensures ∙ c.if-not-passes.true))
 
 pub loop-u-preserved : goal.loop-u-preserved
 loop-u-preserved c = let a = c.args in
     let l = c.loop-u in (
       omega arith,
       l.invariant.1 ∙ vertex-passes (exact0 a.words.now a.nf a.nv a.xs.now) a.ys.now a.t 0 a.nv l.u c.old_far-v.result (omega arith) (here c.before.before.before)
-          (sym c.passes.ensures ∙ not-false c.passes.result (ap not c.if-not-passes.false)),
+          (sym c.passes.ensures ∙ c.if-not-passes.false),
     )
 
 pub returns : goal.returns

@@ -20,7 +20,7 @@ returns-then-levels-eq0 c = let a = c.args in
 pub returns-then-not-passes : goal.returns-then-not-passes
 returns-then-not-passes c = let a = c.args in
     old-far-first a.levels (far_from (needs_at (exact0 a.words.now a.nf a.nv a.xs.now) a.ys.now) a.t 0 (3 * a.nv)) (far_from (needs_at (exact1 a.words.now a.nf a.nv a.xs.now) a.ys.now) a.t (3 * a.nv) (3 * edges_in a.words.now 0 a.nf)) c.far_old-v.result c.far_old-v.ensures
-    c.if-levels-eq0.false (sym c.passes.ensures ∙ not-true c.passes.result (ap not c.if-not-passes.true))
+    c.if-levels-eq0.false (sym c.passes.ensures ∙ c.if-not-passes.true)
 
 pub far_new-requires : goal.far_new-requires
 far_new-requires c = let r = c.requires in record { mesh = r.mesh; coords = r.coords; claim = (r.claim.new c.if-levels-eq0.false, r.claim.small) }
@@ -28,4 +28,4 @@ far_new-requires c = let r = c.requires in record { mesh = r.mesh; coords = r.co
 pub returns : goal.returns
 returns c = let a = c.args in
     then-new a.levels (far_from (needs_at (exact0 a.words.now a.nf a.nv a.xs.now) a.ys.now) a.t 0 (3 * a.nv)) (far_from (needs_at (exact1 a.words.now a.nf a.nv a.xs.now) a.ys.now) a.t (3 * a.nv) (3 * edges_in a.words.now 0 a.nf)) c.far_old-v.result c.far_old-v.ensures c.far_new.result
-    c.if-levels-eq0.false (sym c.passes.ensures ∙ not-false c.passes.result (ap not c.if-not-passes.false)) c.far_new.ensures
+    c.if-levels-eq0.false (sym c.passes.ensures ∙ c.if-not-passes.false) c.far_new.ensures
