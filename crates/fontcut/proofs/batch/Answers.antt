@@ -16,7 +16,7 @@ returns-then-number-ne0 c = let a = c.args in
 pub slots-requires : goal.slots-requires
 slots-requires c = let r = ready _ _ _ _ _ c.subdivide_sheets-number.ensures c.if-number-ne0.false in
     let k = c.subdivide_sheets-number.auto in
-    (r.five, r.positions, r.indices, omega (arith, r.five, k.1.1.0, k.1.1.1.0, k.1.1.1.1.1.1.0, length-replicate {A = ℤ} 12288 (pos 0), length-replicate {A = ℕ} 12288 0, length-replicate {A = ℕ} 320 0, c.requires))
+    (r.five, r.positions, r.indices, omega (arith, r.five, k.positions, k.out, k.answers, length-replicate {A = ℤ} 12288 (pos 0), length-replicate {A = ℕ} 12288 0, length-replicate {A = ℕ} 320 0, c.requires))
 
 pub returns : goal.returns
 returns c = let a = c.args in

@@ -93,27 +93,11 @@ offset_bounds-answers-s-in-loop-k-2 c = omega (arith, here c.before.before.befor
 pub slice_bounds-slot-count : goal.slice_bounds-slot-count
 slice_bounds-slot-count c = omega (arith, here c.before.before.before, c.requires.0)
 
--- LEFT goal is gone: slice-bounds-slot-start
--- part-slot-start : tie.Need-slice-bounds-slot-start invariant-loop decreases-loop
--- part-slot-start c = omega (arith, here c.before.before, c.before.before.before.before.before.before.before.requires.0)
-
--- LEFT goal is gone: slice-bounds-slot-end
--- part-slot-end : tie.Need-slice-bounds-slot-end invariant-loop decreases-loop
--- part-slot-end c = omega (arith, here c.before.before, c.before.before.before.before.before.before.before.requires.0)
-
 pub offset_bounds-positions-p : goal.offset_bounds-positions-p
 offset_bounds-positions-p c = omega (arith, here c.before.before.before.before)
 
 pub slice_bounds-slot-count-in-loop-k : goal.slice_bounds-slot-count-in-loop-k
 slice_bounds-slot-count-in-loop-k c = omega (arith, here c.before.before.before.before)
-
--- LEFT goal is gone: slice-bounds-slot-start-2
--- part-slot-start-2 : tie.Need-slice-bounds-slot-start-2 invariant-loop decreases-loop
--- part-slot-start-2 c = omega (arith, here c.before.before.before)
-
--- LEFT goal is gone: slice-bounds-slot-end-2
--- part-slot-end-2 : tie.Need-slice-bounds-slot-end-2 invariant-loop decreases-loop
--- part-slot-end-2 c = omega (arith, here c.before.before.before)
 
 pub offset_bounds-indices-q : goal.offset_bounds-indices-q
 offset_bounds-indices-q c = omega (arith, here c.before.before.before.before.before)
@@ -121,24 +105,14 @@ offset_bounds-indices-q c = omega (arith, here c.before.before.before.before.bef
 pub slice_bounds-slot-count-in-loop-k-2 : goal.slice_bounds-slot-count-in-loop-k-2
 slice_bounds-slot-count-in-loop-k-2 c = omega (arith, here c.before.before.before.before.before)
 
--- LEFT goal is gone: slice-bounds-slot-start-3
--- part-slot-start-3 : tie.Need-slice-bounds-slot-start-3 invariant-loop decreases-loop
--- part-slot-start-3 c = omega (arith, here c.before.before.before.before)
-
--- LEFT goal is gone: slice-bounds-slot-end-3
--- part-slot-end-3 : tie.Need-slice-bounds-slot-end-3 invariant-loop decreases-loop
--- part-slot-end-3 c = omega (arith, here c.before.before.before.before)
-
 pub slice_bounds-slot-count-in-loop-k-3 : goal.slice_bounds-slot-count-in-loop-k-3
 slice_bounds-slot-count-in-loop-k-3 c = omega (arith, here c.before.before.before.before.before.before, long c.before.before.before.before.before.before)
 
--- LEFT goal is gone: slice-bounds-slot-start-4
--- part-slot-start-4 : tie.Need-slice-bounds-slot-start-4 invariant-loop decreases-loop
--- part-slot-start-4 c = omega (arith, here c.before.before.before.before.before, long c.before.before.before.before.before)
+pub slice_bounds-slot-end-in-loop-k : goal.slice_bounds-slot-end-in-loop-k
+slice_bounds-slot-end-in-loop-k c = omega (arith, here c.before.before.before.before)
 
--- LEFT goal is gone: slice-bounds-slot-end-4
--- part-slot-end-4 : tie.Need-slice-bounds-slot-end-4 invariant-loop decreases-loop
--- part-slot-end-4 c = omega (arith, here c.before.before.before.before.before, long c.before.before.before.before.before)
+pub slice_bounds-slot-end-in-loop-k-2 : goal.slice_bounds-slot-end-in-loop-k-2
+slice_bounds-slot-end-in-loop-k-2 c = omega (arith, here c.before.before.before.before.before)
 
 pub slot-put-requires : goal.slot-put-requires
 slot-put-requires c = let l = c.loop-k in
