@@ -28,3 +28,7 @@ pub mod Both
 pub mod Marked
 pub mod SharpSettled
 pub mod Axes
+pub mod Cases
+pub mod SharpCases
+pub mod AxesCases
+pub mod Orders
