@@ -12,9 +12,8 @@ count_corners-requires c = let fs = c.args.indices.now in
     record { sizes = (c.requires.tables.faces, below_more c.args.v 4096 fs c.requires.sizes.1 c.requires.sizes.3.below); empty = counted_none fs 4096 }
 
 pub fans-requires : goal.fans-requires
-fans-requires c = let k = c.count_corners in
-    let n : length k.new.1.0 ≡ 4096 = k.auto.1.0 in
-    record { tables = c.requires.tables; counts = (k.ensures, rw n c.requires.sizes.1, rw c.requires.sizes.2 c.requires.sizes.1, c.requires.sizes.1) }
+fans-requires c = let n : length c.count_corners.new.counts ≡ 4096 = c.count_corners.auto.counts in
+    record { tables = c.requires.tables; counts = (c.count_corners.ensures, rw n c.requires.sizes.1, rw c.requires.sizes.2 c.requires.sizes.1, c.requires.sizes.1) }
 
 pub returns-in-No : goal.returns-in-No
 returns-in-No c = let a = c.args in

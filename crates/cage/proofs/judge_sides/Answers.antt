@@ -17,24 +17,21 @@ chain-requires c = let fs = c.args.indices.now in
     record { sizes = (c.requires.2, below_more c.args.v 4096 fs c.requires.1 c.requires.3); empty = (heads-none fs 4096, chained-none fs 12288 c.requires.2.few) }
 
 pub link-low-requires : goal.link-low-requires
-link-low-requires c = let k = c.chain in
-    let fs = c.args.indices.now in
-    let n : length k.new.1.0 ≡ 4096 = k.auto.1.0 in
+link-low-requires c = let fs = c.args.indices.now in
+    let n : length c.chain.new.heads ≡ 4096 = c.chain.auto.heads in
     let few = c.requires.2.few in
     let small = below_more c.args.v 4096 fs c.requires.1 c.requires.3 in
-    record { sizes = (c.requires.2, rw n small, small, omega arith); chains = (k.ensures.0, k.ensures.1) }
+    record { sizes = (c.requires.2, rw n small, small, omega arith); chains = (c.chain.ensures.heads, c.chain.ensures.nexts) }
 
 pub reused-requires : goal.reused-requires
 reused-requires c = (c.requires.2, c.link-low.ensures.used)
 
 pub judge_links-requires : goal.judge_links-requires
 judge_links-requires c = let fs = c.args.indices.now in
-    let k = c.chain in
-    let l = c.link-low in
-    let n : length k.new.1.0 ≡ 4096 = k.auto.1.0 in
-    let m : length l.new.1.1.1.0 ≡ 12288 = l.auto.1.1.1.0 in
+    let n : length c.chain.new.heads ≡ 4096 = c.chain.auto.heads in
+    let m : length c.link-low.new.words ≡ 12288 = c.link-low.auto.words in
     let few = c.requires.2.few in
-    let once = once-of fs c.requires.2 (sym c.reused.ensures ∙ c.in-Pass.is) in record { sizes = (c.requires.0, c.requires.1, n); list = (c.requires.3, c.requires.4, once); tables = record { faces = c.requires.2; heads = k.ensures.0; room = rw m few; words = words-stored fs (replicate 12288 0) l.new.1.1.1.0 few (l.ensures.1 once) } }
+    let once = once-of fs c.requires.2 (sym c.reused.ensures ∙ c.in-Pass.is) in record { sizes = (c.requires.0, c.requires.1, n); list = (c.requires.3, c.requires.4, once); tables = record { faces = c.requires.2; heads = c.chain.ensures.heads; room = rw m few; words = words-stored fs (replicate 12288 0) c.link-low.new.words few (c.link-low.ensures.links once) } }
 
 pub returns-in-No : goal.returns-in-No
 returns-in-No c = let a = c.args in

@@ -17,7 +17,7 @@ use Rattle.cage.proofs.judge_whole.Tie
 use Rattle.cage.proofs.judge_whole.Goals as goal
 
 abbrev After-shape : Type 0
-After-shape = Lts.After-shape Tie.the-claims Reads.Pre Reads.Post Tie.handed_clauses
+After-shape = Lts.After-shape Tie.the-claims Reads.Pre Reads.Post
 
 shaped :
     (k : After-shape) → k.shape.result ≡ Pass →

@@ -17,13 +17,12 @@ chain-requires c = let fs = c.args.indices.now in
     record { sizes = (p.0, p.1); empty = (heads-none fs 4096, chained-none fs 12288 p.0.few) }
 
 pub put_links-requires : goal.put_links-requires
-put_links-requires c = let k = c.chain in
-    let p = c.requires in
-    let n : length k.new.1.0 ≡ 4096 = k.auto.1.0 in
-    record { sizes = (p.sizes.0, rw n p.sizes.1, omega arith); chains = (k.ensures.0, k.ensures.1); once = p.once }
+put_links-requires c = let p = c.requires in
+    let n : length c.chain.new.heads ≡ 4096 = c.chain.auto.heads in
+    record { sizes = (p.sizes.0, rw n p.sizes.1, omega arith); chains = (c.chain.ensures.heads, c.chain.ensures.nexts); once = p.once }
 
 pub returns : goal.returns
 returns c = let fs = c.args.indices.now in
-    let n : length c.chain.new.heads ≡ 4096 = c.chain.auto.1.0 in
+    let n : length c.chain.new.heads ≡ 4096 = c.chain.auto.heads in
     c.put_starts.ensures
     ∙ ap₂ (λ (x y : List ℕ). sets x (c.args.at + length fs) y) c.put_links.ensures (starts-are c.args.v fs c.chain.new.heads (rw n c.requires.sizes.2) c.chain.ensures.heads)

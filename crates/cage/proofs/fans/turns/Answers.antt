@@ -40,14 +40,12 @@ turned :
     (k : After-turn_at-t) →
     (k.turn_at-t.result ≡ turn_of (fans_of k.args.v k.args.indices.now k.loop-u.u))
 turned k =
-    let k.before.before.before.before.before.before.before = k.before.before.before.before.before.before.before in
     k.turn_at-t.ensures ∙ ap turn_of (sym (fan-at k.args.v k.args.indices.now k.loop-u.u k.loop-u-test.true))
 
 is-parted :
     (k : After-short) →
     (parted k.args.indices.now (fans_of k.args.v k.args.indices.now) k.loop-u.u ≡ k.short.result)
 is-parted k =
-    let k.before.before.before.before.before.before.before.before.before = k.before.before.before.before.before.before.before.before.before in
     let fs = k.args.indices.now in
     let u = k.loop-u.u in
     let f = fans_of k.args.v fs u in
@@ -64,7 +62,6 @@ no-ten :
     (k : After-loop-u) →
     (verdict_of (check 10 (lowest (parted k.args.indices.now (fans_of k.args.v k.args.indices.now)) k.args.v)) ≡ Pass)
 no-ten k =
-    let k.before.before.before.before.before.before = k.before.before.before.before.before.before in
     lowest-nowhere 10 (parted k.args.indices.now (fans_of k.args.v k.args.indices.now)) k.args.v (λ j h. k.loop-u.invariant.1 j (omega (arith, k.loop-u-test.false)))
 
 pub loop-u-init : goal.loop-u-init

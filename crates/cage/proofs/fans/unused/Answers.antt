@@ -16,14 +16,13 @@ use Rattle.cage.proofs.fans.unused.Tie
 use Rattle.cage.proofs.fans.unused.Goals as goal
 
 abbrev After-shared_slice_known-in-loop-u-1 : Type 0
-After-shared_slice_known-in-loop-u-1 = Lts.After-shared_slice_known3 Tie.the-claims Reads.Pre Reads.Post goal.the-invariant-loop-u goal.the-decreases-loop-u Tie.handed_clauses
+After-shared_slice_known-in-loop-u-1 = Lts.After-shared_slice_known3 Tie.the-claims Reads.Pre Reads.Post goal.the-invariant-loop-u goal.the-decreases-loop-u
 
 none-at :
     (k : After-shared_slice_known-in-loop-u-1) →
     (let u = k.loop-u.u in
     not (found (find (eqb u) k.args.indices.now)) ≡ eqb (get_or k.args.heads.now u 0) 0)
 none-at k =
-    let k.before.before.before.before.before = k.before.before.before.before.before in
     let u = k.loop-u.u in
     unused-is k.args.indices.now u ∙ ap (λ (h : ℕ). eqb h 0) (sym (k.requires.0.head u (omega arith)))
 

@@ -25,13 +25,13 @@ After-lower-seen = Lts.After-lower Tie.the-claims Reads.Pre Reads.Post goal.the-
 on : (k : In-loop-h) → corner k.args.indices.now (k.loop-h.h - 1) ≡ k.args.u
 on k = k.loop-h.invariant.1 k.loop-h-test.true
 
-room : (k : After-end_of-b) → k.end_of_lem.result < length k.loop-h.marks
+room : (k : After-end_of-b) → k.end_of-b.result < length k.loop-h.marks
 room k =
     let fs = k.args.indices.now in
     let l = k.loop-h in
     let n = l.invariant.2 in
     let h : l.h - 1 < length fs = omega (arith, l.invariant.0, k.loop-h-test.true) in
-    rw k.end_of_lem.ensures (omega (arith, k.requires.sizes.1.each (onward (l.h - 1)) (third-on fs k.requires.sizes.0 (l.h - 1) h)))
+    rw k.end_of-b.ensures (omega (arith, k.requires.sizes.1.each (onward (l.h - 1)) (third-on fs k.requires.sizes.0 (l.h - 1) h)))
 
 -- the next one
 nxt :
@@ -47,7 +47,7 @@ seen-is :
     (k : After-lower-seen) →
     (let a = k.args in
     let l = k.loop-h in
-    k.lower-seen.result ≡ lower_of l.seen (fresh_mark a.indices.now a.u (get_or l.marks k.before.before.before.end_of_lem.result 0)) l.h)
+    k.lower-seen.result ≡ lower_of l.seen (fresh_mark a.indices.now a.u (get_or l.marks k.end_of-b.result 0)) l.h)
 seen-is k = let l = k.loop-h in k.lower-seen.ensures ∙ ap (λ (m : ℕ). lower_of l.seen m l.h) k.fresh-m.ensures
 
 pub loop-h-init : goal.loop-h-init
@@ -77,7 +77,7 @@ pub bounds-marks-b : goal.bounds-marks-b
 bounds-marks-b c = room c.before.before
 
 pub fresh-m-requires : goal.fresh-m-requires
-fresh-m-requires c = c.loop-h.invariant.3.below c.before.end_of_lem.result
+fresh-m-requires c = c.loop-h.invariant.3.below c.end_of-b.result
 
 pub offset_bounds-marks-b-in-loop-h : goal.offset_bounds-marks-b-in-loop-h
 offset_bounds-marks-b-in-loop-h c = omega (arith, room c.before.before.before.before)
@@ -101,9 +101,9 @@ loop-h-preserved c = let a = c.args in
     let l = c.loop-h in
     let t = c.loop-h-test.true in
     let v = l.invariant in
-    let b = c.before.before.before.before.end_of_lem.result in
+    let b = c.end_of-b.result in
     let r = room c.before.before.before.before.before in
-    let e = sym c.before.before.before.before.end_of_lem.ensures in
+    let e = sym c.end_of-b.ensures in
     let o = on c.before.before.before.before.before.before in
     let n = nxt c.before.before in
     let m = get_or a.nexts.now (l.h - 1) 0 in

@@ -24,22 +24,22 @@ After-seek-t = Lts.After-seek Tie.the-claims Reads.Pre Reads.Post goal.the-invar
 
 below :
     (k : After-end_of-b) →
-    k.end_of_lem.result < length k.args.heads.now
+    k.end_of-b.result < length k.args.heads.now
 below k =
     let p = k.requires.sizes.0.thirds in
-    rw k.end_of_lem.ensures (k.requires.sizes.1.each (onward k.loop-s.s) (omega (arith, k.loop-s-test.true)))
+    rw k.end_of-b.ensures (k.requires.sizes.1.each (onward k.loop-s.s) (omega (arith, k.loop-s-test.true)))
 
 head :
     (k : After-end_of-b) →
     (let fs = k.args.indices.now in
-    get_or k.args.heads.now k.end_of_lem.result 0 ≡ last_below (leaves fs (corner fs (onward k.loop-s.s))) (length fs))
+    get_or k.args.heads.now k.end_of-b.result 0 ≡ last_below (leaves fs (corner fs (onward k.loop-s.s))) (length fs))
 head k =
     let fs = k.args.indices.now in
-    k.requires.chains.0.head k.end_of_lem.result (below k) ∙ ap (λ (a : ℕ). last_below (leaves fs a) (length fs)) k.end_of_lem.ensures
+    k.requires.chains.0.head k.end_of-b.result (below k) ∙ ap (λ (a : ℕ). last_below (leaves fs a) (length fs)) k.end_of-b.ensures
 
 head-le :
     (k : After-end_of-b) →
-    get_or k.args.heads.now k.end_of_lem.result 0 ≤ length k.args.indices.now
+    get_or k.args.heads.now k.end_of-b.result 0 ≤ length k.args.indices.now
 head-le k =
     let fs = k.args.indices.now in
     rw (head k) (last-le (leaves fs (corner fs (onward k.loop-s.s))) (length fs))
@@ -53,7 +53,7 @@ found-link k =
     let x = k.loop-s.s in
     let h = k.loop-s-test.true in
     k.seek-t.ensures
-    ∙ runs-from fs (corner fs (onward x)) (corner fs x) (length fs) (get_or k.args.heads.now k.before.before.before.end_of_lem.result 0) (head k.before.before.before)
+    ∙ runs-from fs (corner fs (onward x)) (corner fs x) (length fs) (get_or k.args.heads.now k.end_of-b.result 0) (head k.before.before.before)
     ∙ sym (link-word fs k.requires.once.each x h) ∙ sym (coded-at fs x h)
 
 pub loop-s-init : goal.loop-s-init

@@ -7,10 +7,8 @@ pub mark-r-requires : goal.mark-r-requires
 mark-r-requires c = let p = c.requires in record { sizes = (p.sizes.0, p.sizes.1); chain = p.chain; marks = p.marks }
 
 pub put_coming-requires : goal.put_coming-requires
-put_coming-requires c = let k = c.mark-r in
-    let n : length k.new.1.1.1.1.0 ≡ length c.args.marks.now = k.auto.1.1.1.1.0 in
-    record { sizes = (c.requires.sizes.0, rw n c.requires.sizes.1, c.requires.sizes.2); chain = c.requires.chain; marks = k.ensures.0 }
+put_coming-requires c = let n : length c.mark-r.new.marks ≡ length c.args.marks.now = c.mark-r.auto.marks in
+    record { sizes = (c.requires.sizes.0, rw n c.requires.sizes.1, c.requires.sizes.2); chain = c.requires.chain; marks = c.mark-r.ensures.marks }
 
 pub returns : goal.returns
-returns c = let k = c.mark-r in
-    record { marks = k.ensures.0.0; words = c.put_coming.ensures; low = k.ensures.1 }
+returns c = record { marks = c.mark-r.ensures.marks.0; words = c.put_coming.ensures; low = c.mark-r.ensures.low }

@@ -11,6 +11,7 @@ use Rattle.cage.proofs.sides.put_vertices.Lts
 use Rattle.cage.proofs.sides.put_vertices.Reads
 use Rattle.cage.proofs.sides.put_vertices.Tie
 use Rattle.cage.proofs.sides.put_vertices.Goals as goal
+use Rattle.cage.proofs.sides.put_vertices.Goals.{then-nexts-s-eq0, else-nexts-s-eq0}
 
 abbrev In-loop-s : Type 0
 In-loop-s = Lts.In-loop Tie.the-claims Reads.Pre Reads.Post goal.the-invariant-loop-s goal.the-decreases-loop-s Tie.handed_clauses
@@ -71,27 +72,29 @@ loop-s-preserved c = let a = c.args in
     let l = c.loop-s in
     let t = c.loop-s-test.true in
     let v = l.invariant in
-    ⊎_elim
-    (λ came.
-    let k = came.5 in
-    let e = k.ensures.1.1 in (
+    elim c.if-nexts-s-eq0.branch [
+    then-nexts-s-eq0 came ↦ (
+      let k = came.put_vertex-low in
+    let e = k.ensures.low in (
       omega arith,
-      rw came.10 (k.kept.1.1.1.1.0 ∙ v.1),
-      rw came.10 k.ensures.0,
-      rw came.12 e.1,
-      rw came.12 (cleared_more fs l.s l.low k.result e.0 v.4 e.2),
-      joined-more fs a.at l.s a.words.now l.words c.if-nexts-s-eq0.words v.5 (rw came.11 k.ensures.1.0),
-    ))
-    (λ came.
-    let m = met (record { before = c.before.before; if1 = came.0 }) in (
+      rw came.marks-is (k.auto.marks ∙ v.1),
+      rw came.marks-is k.ensures.marks,
+      rw came.low-is e.1,
+      rw came.low-is (cleared_more fs l.s l.low k.result e.0 v.4 e.2),
+      joined-more fs a.at l.s a.words.now l.words c.if-nexts-s-eq0.words v.5 (rw came.words-is k.ensures.words),
+    )
+    )
+    | else-nexts-s-eq0 came ↦ (
+      let m : 0 < last_below (leaves fs (corner fs l.s)) l.s = omega (arith, c.requires.chains.1.next l.s t, came.if-nexts-s-eq0.false) in (
       omega arith,
-      rw came.1 v.1,
-      rw came.1 v.2,
-      rw came.3 v.3,
-      rw came.3 (cleared-again fs l.s m l.low v.4),
-      rw came.2 (joined-again fs l.s m a.at a.words.now l.words v.5),
-    ))
-    c.if-nexts-s-eq0.branch
+      rw came.marks-is v.1,
+      rw came.marks-is v.2,
+      rw came.low-is v.3,
+      rw came.low-is (cleared-again fs l.s m l.low v.4),
+      rw came.words-is (joined-again fs l.s m a.at a.words.now l.words v.5),
+    )
+    )
+    ]
 
 pub shape_of-marks : goal.shape_of-marks
 shape_of-marks c = c.loop-s.invariant.1

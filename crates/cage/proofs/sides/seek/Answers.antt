@@ -55,7 +55,7 @@ pub end_of-requires : goal.end_of-requires
 end_of-requires c = (c.requires.sizes.0, omega (arith, c.requires.sizes))
 
 pub returns-then-end_of-b : goal.returns-then-end_of-b
-returns-then-end_of-b c = sym (turn c.before.before ∙ rw (eq-eqb _ _ (sym c.if-end_of-b.true ∙ c.before.end_of_lem.ensures)))
+returns-then-end_of-b c = sym (turn c.before.before ∙ rw (eq-eqb _ _ (sym c.if-end_of-b.true ∙ c.end_of.ensures)))
 
 pub offset_bounds-nexts-k : goal.offset_bounds-nexts-k
 offset_bounds-nexts-k c = omega (arith, c.requires.sizes)
@@ -73,7 +73,7 @@ loop-h-preserved c = let a = c.args in
     let h = c.loop-h.h in
     let n = nxt c.before.before.before in (
       omega (arith, nxt-le c.before.before.before, c.loop-h.invariant.0),
-      rw n (turn c.before.before.before ∙ rw (ne_eqb _ _ (λ e. c.if-end_of-b.false (c.before.before.end_of_lem.ensures ∙ sym e))) (runs-next fs x a.b (h - 1) _ refl)),
+      rw n (turn c.before.before.before ∙ rw (ne_eqb _ _ (λ e. c.if-end_of-b.false (c.end_of.ensures ∙ sym e))) (runs-next fs x a.b (h - 1) _ refl)),
       λ l. rw n (eqb-true _ _ (last-is (leaves fs x) (h - 1) (rw n at l))),
     )
 

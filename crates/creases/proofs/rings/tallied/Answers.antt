@@ -1,0 +1,10 @@
+use native.Mathlib.Omega.{arith}
+use borrow.Author.Rules.{rules}
+use mathlib.Core.Path.{◌≡◌, sym, ap, ◌∙◌}
+use Rattle.creases.proofs.rings.tallied.Goals as goal
+
+pub returns-then-mark : goal.returns-then-mark
+returns-then-mark c = rw (sym c.mark.ensures ∙ c.if-mark.true)
+
+pub returns-else-mark : goal.returns-else-mark
+returns-else-mark c = rw (sym c.mark.ensures ∙ c.if-mark.false) (omega arith)

@@ -1,0 +1,16 @@
+use borrow.Author.Rules.{rules}
+use native.Mathlib.Omega.{arith}
+use Prim.Native.Nat.{◌*◌, ◌-◌, ◌≤◌}
+use mathlib.Core.Path.{◌≡◌, refl, ◌∙◌}
+use lib.ListN.{length, length-set}
+use lib.Seq.{sets}
+use Rattle.rules.specs.Sheets.{word_at, words_of}
+use Rattle.lists.specs.Lists.{rows}
+use Rattle.reader.proofs.Laws.{one_more}
+use Rattle.reader.proofs.words_from.Given as goal
+
+abbrev pub invariant-loop-k : goal.invariant-loop-k
+invariant-loop-k l = (l.k ≤ l.n) × ((length l.s ≡ length l.initial.s) × (l.s ≡ sets l.initial.s 0 (words_of l.b l.k)))
+
+abbrev pub decreases-loop-k : goal.decreases-loop-k
+decreases-loop-k l = l.n - l.k
