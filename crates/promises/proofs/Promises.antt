@@ -22,7 +22,7 @@ use Rattle.rules.specs.declared.Refusal.{Refusal}
 use Rattle.rules.specs.declared.Counts.{Counts}
 use Rattle.rules.specs.declared.Outcome.{Outcome}
 use Rattle.rules.specs.declared.Outcome.TheVariants.{Success, Refused}
-use Rattle.rules.proofs.Bound.{demand-3}
+use Rattle.rules.proofs.Demand.{demand-3}
 use Rattle.rules.proofs.Cage.{accepted}
 use Rattle.rules.proofs.Sound.{Sound}
 use Rattle.rules.proofs.Levels.{level, sound-level, mesh-levels, counts-level, rims-level}

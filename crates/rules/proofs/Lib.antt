@@ -21,6 +21,7 @@ pub mod Weights
 pub mod Growth
 pub mod Related
 pub mod Bound
+pub mod Demand
 pub mod Range
 pub mod Settled
 pub mod Sharp
