@@ -6,4 +6,4 @@ use borrow.Author.Rules.{rules}
 use Rattle.reader.proofs.coord_at.Goals as goal
 
 pub returns : goal.returns
-returns c = to_z-of_z w32 c.signed.result (record { sfits = c.signed.type-inv }) ∙ c.signed.ensures ∙ ap signed c.word_at.ensures
+returns c = to_z-of_z w32 c.signed.result (record { sfits = c.signed.type_inv }) ∙ c.signed.ensures ∙ ap signed c.word_at.ensures

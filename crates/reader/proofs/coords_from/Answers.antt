@@ -18,7 +18,7 @@ loop-k-init c = (omega arith, (refl, refl))
 pub loop-k-preserved : goal.loop-k-preserved
 loop-k-preserved c = let l = c.loop-k in
     let a = c.args in
-    let e = to_z-of_z w32 c.coord_at.result (record { sfits = c.coord_at.type-inv }) ∙ c.coord_at.ensures in
+    let e = to_z-of_z w32 c.coord_at.result (record { sfits = c.coord_at.type_inv }) ∙ c.coord_at.ensures in
     (omega arith, (rw length-set l.invariant.1.0, rw (e, l.invariant.1.1) (one_more (λ k. signed (word_at a.b.now (4 * k))) a.s.now l.k)))
 
 pub returns : goal.returns

@@ -25,9 +25,8 @@ within c = omega (arith, start c, bytes c, bytes-within c.args.b.now)
 pub overflow_add-end : goal.overflow_add-end
 overflow_add-end c = omega (arith, within c.before)
 
--- LEFT goal is gone: slice-bounds-result-end
--- part-result-end : tie.Need-slice-bounds-result-end
--- part-result-end c = omega (arith, within c)
+pub slice_bounds-result-end : goal.slice_bounds-result-end
+slice_bounds-result-end c = omega (arith, within c.before)
 
 pub returns : goal.returns
 returns c = let e : c.vertex_bytes-start.result + c.face_bytes.result - c.vertex_bytes-start.result ≡ c.face_bytes.result = omega arith in

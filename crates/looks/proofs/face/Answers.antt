@@ -1,0 +1,9 @@
+use mathlib.Core.Path.{refl}
+use Rattle.looks.proofs.Found.{face-is}
+use borrow.Author.Rules.{rules}
+use Rattle.looks.proofs.face.Goals as goal
+
+pub returns : goal.returns
+returns c = let a = c.args in
+    rw (c.decode-p.ensures, c.decode-q.ensures, c.decode-r.ensures)
+    (face-is a.words.now a.at a.n c.requires.0.room a.f.0 c.requires.1 _ _ _ _ _ _ refl refl refl c.across.ensures c.across-2.ensures c.across-3.ensures)

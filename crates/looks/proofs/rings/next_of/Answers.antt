@@ -1,0 +1,17 @@
+use mathlib.Core.Path.{ap, ◌∙◌}
+use Prim.Native.Nat.{◌+◌}
+use lib.ListN.{get_or}
+use Rattle.faces.specs.Faces.{next_vert_of}
+use Rattle.faces.specs.Rings.{vert}
+use Rattle.faces.specs.declared.face.Face.{Face}
+use Rattle.looks.specs.Looked.{number_of}
+use Rattle.looks.proofs.Walks.{next-vert-is}
+use borrow.Author.Rules.{rules}
+use Rattle.looks.proofs.rings.next_of.Goals as goal
+
+pub returns : goal.returns
+returns c = let a = c.args in
+    let v = vert (get_or a.words.now (a.at + a.s) 0) in
+    c.number_of.ensures
+    ∙ ap number_of (c.next_vert.ensures ∙ ap (λ (f : Face). next_vert_of f v) c.bare.ensures
+    ∙ next-vert-is a.words.now a.at a.nf c.requires.0 a.s c.requires.1)
