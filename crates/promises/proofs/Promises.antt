@@ -215,8 +215,3 @@ module _ (bytes : List ℕ) (b : Lent (Buffers ℤ)) (c : Counts) (s : SheetCall
         words = s.words;
         work = s.work;
       }
-
-  -- demand 3 of a sheet
-  pub demand-3-of-a-sheet : (v k : ℕ) → v < c.vertices → k < 3
-      → Within (sheet_levels bytes + 1) (get_or b.new.positions (3 * v + k) (pos 0)) (coord exact (exact_limits (sheet_levels bytes) (sheet_indices bytes) (sheet_coords bytes)) k v)
-  demand-3-of-a-sheet v k h j = demand-3-of-the-call (sheet_levels bytes) (sheet_indices bytes) (sheet_coords bytes) b c call-of-a-sheet v k h j
