@@ -9,7 +9,7 @@ ghost use Rattle.reader.specs.Reading.{sheet_of as trailer_of};
 ghost use Rattle.station.specs.Acceptance.{verdict};
 ghost use Rattle.claimcheck.specs.Output.{verdict_text, unreadable_text, rims_of, with_rims, claim_verdict, claim_text, Heard, Judged, Spoken};
 
-use libc::{STDERR_FILENO, STDIN_FILENO, STDOUT_FILENO};
+use listing::{STDERR_FILENO, STDIN_FILENO, STDOUT_FILENO};
 use reader::Sheet;
 use rules::{Counts, Outcome, Refusal};
 use station::{Fault, Verdict};

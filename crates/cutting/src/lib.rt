@@ -5,7 +5,7 @@ ghost use Rattle.std.specs.Prelude.{◌≤◌, length};
 ghost use Rattle.listing.specs.Text.{Put};
 ghost use Rattle.cutting.specs.Output.{plate_text, cut_text};
 
-use libc::{STDERR_FILENO, STDIN_FILENO, STDOUT_FILENO};
+use listing::{STDERR_FILENO, STDIN_FILENO, STDOUT_FILENO};
 use rules::{Outcome, Refusal};
 use sheet::Engine;
 

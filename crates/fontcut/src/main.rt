@@ -6,7 +6,7 @@ ghost use Rattle.rules.specs.Calls.{given};
 ghost use Rattle.listing.specs.Text.{Put};
 ghost use Rattle.fontcut.specs.Output.{slot_text, slot_texts, sums, refused_by, batch_text, font_text};
 
-use libc::{STDERR_FILENO, STDIN_FILENO, STDOUT_FILENO};
+use listing::{STDERR_FILENO, STDIN_FILENO, STDOUT_FILENO};
 use rules::{Counts, Refusal};
 
 // One slot: the plate where its number is 0, else the refusal.

@@ -8,6 +8,13 @@ ghost use Rattle.listing.specs.Text.{Put, bias, numeral, signed_numeral, spaced,
 
 use rules::{Counts, Refusal};
 
+// What a program begins with: the numbers under which crate `io` reads and writes.
+pub const STDIN_FILENO: i32 = 0;
+
+pub const STDOUT_FILENO: i32 = 1;
+
+pub const STDERR_FILENO: i32 = 2;
+
 pub fn byte(text: &mut [u8], at: usize, b: u8) -> usize
     requires { at + 1 ≤ length text.old }
     ensures { Put text.old at (b ∷ []) text.new result }

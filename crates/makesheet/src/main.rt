@@ -7,7 +7,7 @@ ghost use Rattle.rules.specs.Calls.{given, lent};
 ghost use Rattle.writer.specs.Writing.{WriteCall};
 ghost use Rattle.makesheet.specs.Lists.{refused_by, MakeCall};
 
-use libc::{STDERR_FILENO, STDIN_FILENO, STDOUT_FILENO};
+use listing::{STDERR_FILENO, STDIN_FILENO, STDOUT_FILENO};
 use limits::Check;
 use rules::Refusal;
 use writer::Written;

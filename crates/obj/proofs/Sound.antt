@@ -335,7 +335,6 @@ module _ (xs : List ℤ) (fs : List ℕ) (n : ℕ) where
         le-leb (10 * n + (c - 48)) (length xs / 3) d.within,
         append-nil,
       )
-      (ap (λ (l : List ℕ). at xs l (Number (10 * n + (c - 48)))) (append-nil fs))
 
   pub number-end : next (at xs fs (Number n)) (ends (length fs)) ≡ at xs (fs ++ ((n - 1) ∷ [])) (after_number (length fs) Corner)
   unfolding next turn

@@ -5,9 +5,10 @@ ghost use Rattle.std.specs.Prelude.{◌≡◌, ◌<◌, length};
 ghost use Rattle.rules.specs.Calls.{given, lent};
 ghost use Rattle.objsheet.specs.Making.{levels_of, refused_by, ObjSheetCall};
 
-use libc::{STDERR_FILENO, STDIN_FILENO, STDOUT_FILENO};
+use listing::{STDERR_FILENO, STDIN_FILENO, STDOUT_FILENO};
 use obj::Lists;
 use rules::Refusal;
+use std::env::Env;
 use writer::Written;
 
 #[derive(Clone, Copy)]
@@ -115,9 +116,13 @@ fn make(levels: u32) {
     }
 }
 
-fn main() {
+// A word that is missing, or longer than 8 bytes, is taken for an empty one.
+fn main(rt: HostRuntime) {
     let mut word = [0u8; 8];
-    let k = os::arg(1, &mut word);
+    let k = match rt.arg(1, &mut word) {
+        Ok(n) => n,
+        Err(_) => 0,
+    };
     match levels_of(&word[..k]) {
         Levels::Are(levels) => make(levels),
         Levels::NoNumber => {

@@ -8,7 +8,7 @@ ghost use Rattle.reader.specs.Reading.{sheet_of};
 ghost use Rattle.listing.specs.Text.{Put};
 ghost use Rattle.outline.specs.Output.{outlines_line, loop_line, entry_text, left_after, entry_texts, Vertices, cage_text, refused_by, outline_text};
 
-use libc::{STDERR_FILENO, STDIN_FILENO, STDOUT_FILENO};
+use listing::{STDERR_FILENO, STDIN_FILENO, STDOUT_FILENO};
 use outlines::{Outline, Traced};
 use reader::Sheet;
 use rules::Refusal;

@@ -7,7 +7,7 @@ ghost use Rattle.rules.specs.Calls.{given};
 ghost use Rattle.obj.specs.Form.{obj_text, has_text};
 ghost use Rattle.plateobj.specs.Output.{plate_text, obj_output};
 
-use libc::{STDERR_FILENO, STDIN_FILENO, STDOUT_FILENO};
+use listing::{STDERR_FILENO, STDIN_FILENO, STDOUT_FILENO};
 use obj::Text;
 use rules::{Outcome, Refusal};
 

@@ -1,6 +1,6 @@
 -- What a call promises, said once for every engine, entry and boundary: its answer, and by that answer what it leaves in each lent buffer.
 use Rattle.std.specs.Prelude.{ℕ, ◌≡◌, List, ℤ, length, Float}
-use Rattle.std.specs.Borrow.{Bor}
+use Rattle.std.specs.Borrow.{Bor, MutBor}
 use denote.Triple.Both.{Both}
 use Rattle.rules.specs.Position.{Numbers, whole, single}
 use Rattle.rules.specs.Levels.{Level, last, positions as positions_of}
@@ -21,7 +21,7 @@ pub record Lent (A : Type 0) : Type 0 where
   pub old : A
   pub new : A
 
-abbrev pub lent : {A : Type 0} → Both (Bor A) (Bor A) → Lent A
+abbrev pub lent : {A : Type 0} → Both (MutBor A) (MutBor A) → Lent A
 lent p = record { old = p.entry.now; new = p.exit.now }
 
 -- the buffers that both engines have
@@ -31,7 +31,7 @@ pub record Buffers (N : Type 0) : Type 0 where
   pub words : List ℕ
   pub work : List N
 
-abbrev pub buffers : {N : Type 0} → Both (Bor (List N)) (Bor (List N)) → Both (Bor (List ℕ)) (Bor (List ℕ)) → Both (Bor (List ℕ)) (Bor (List ℕ)) → Both (Bor (List N)) (Bor (List N)) → Lent (Buffers N)
+abbrev pub buffers : {N : Type 0} → Both (MutBor (List N)) (MutBor (List N)) → Both (MutBor (List ℕ)) (MutBor (List ℕ)) → Both (MutBor (List ℕ)) (MutBor (List ℕ)) → Both (MutBor (List N)) (MutBor (List N)) → Lent (Buffers N)
 buffers ps is ws cs =
     record {
       old = record { positions = ps.entry.now; indices = is.entry.now; words = ws.entry.now; work = cs.entry.now };

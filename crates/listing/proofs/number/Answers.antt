@@ -14,8 +14,8 @@ After-decimal-k = Lts.After-decimal Tie.the-claims Reads.Pre Reads.Post Tie.hand
 
 spelled : (k : After-decimal-k) → take k.decimal-k.result k.decimal-k.new.out ≡ numeral k.args.n
 spelled k =
-    let e = (k.decimal-k.ensures.in_bounds, (k.decimal-k.ensures.len, (k.decimal-k.ensures.digits, k.decimal-k.ensures.rest))) in
-    e.1.1 ∙ numeral-is _ _ e.len.0 e.len.1 e.len.2 (omega arith)
+    let e = k.decimal-k.ensures in
+    e.digits ∙ numeral-is _ _ e.len.0 e.len.1 e.len.2 (omega arith)
 
 pub word-requires : goal.word-requires
 word-requires c = rw (spelled c.before.before) (omega (arith, numeral-few c.args.n))

@@ -1,0 +1,7 @@
+use mathlib.Core.Path.{ap, ◌∙◌}
+use Rattle.rules.specs.Answers.{answer}
+use borrow.Author.Rules.{rules}
+use Rattle.cage_c.proofs.cage_judge_whole.Goals as goal
+
+pub returns : goal.returns
+returns c = c.tell.ensures ∙ ap answer c.judge_whole.ensures
