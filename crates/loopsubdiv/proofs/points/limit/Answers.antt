@@ -25,7 +25,7 @@ loop-u-preserved c = let l = c.loop-u in
       omega arith,
       ap length e ∙ simp length-sets l.invariant.1,
       limit-more single c.args.words.now c.args.at c.args.nf c.args.nv c.args.xs.now c.args.out.now l.out _ (listed c.limit_at-p.result) l.u (omega arith)
-          l.invariant.2 e c.limit_at-p.ensures,
+          l.invariant.2 e c.limit_at-p.ensures.point,
     )
 
 pub returns : goal.returns

@@ -36,4 +36,4 @@ pub vertex-requires : goal.vertex-requires
 vertex-requires c = old-single c.args.words.now c.args.at c.args.nf c.args.nv c.requires.mesh.0 c.args.u c.requires.mesh.1 c.one_ring-ring.result c.one_ring-ring.ensures.ring (replicate most_valence 0) c.one_ring-ring.new.out (omega arith) c.one_ring-ring.ensures.out c.requires.coords
 
 pub returns : goal.returns
-returns c = moved-is c.args.words.now c.args.at c.args.nf c.args.nv c.requires.mesh.0 c.args.u c.requires.mesh.1 c.one_ring-ring.result c.one_ring-ring.ensures.ring (replicate most_valence 0) c.one_ring-ring.new.out (omega arith) c.one_ring-ring.ensures.out single limit c.args.xs.now (listed c.vertex.result) c.vertex.ensures
+returns c = record { point = moved-is c.args.words.now c.args.at c.args.nf c.args.nv c.requires.mesh.0 c.args.u c.requires.mesh.1 c.one_ring-ring.result c.one_ring-ring.ensures.ring (replicate most_valence 0) c.one_ring-ring.new.out (omega arith) c.one_ring-ring.ensures.out single limit c.args.xs.now (listed c.vertex.result) c.vertex.ensures }
