@@ -138,8 +138,9 @@ def fresh(dice):
 def library():
     """The static library, which is proved and built anew where a file of a crate is newer."""
     built = ROOT / "target" / "staticlib" / "libplates.a"
-    if not built.exists() or any(p.stat().st_mtime > built.stat().st_mtime for p in [ROOT / "crates.txt", *(ROOT / "crates").rglob("*")]):
-        subprocess.run(["rt", "staticlib", "plates"], cwd=ROOT, check=True, stdout=subprocess.DEVNULL)
+    newer = ["find", "crates", "crates.txt", "-name", "out", "-prune", "-o", "-newer", built, "-type", "f", "-print"]
+    if not built.exists() or subprocess.run(newer, cwd=ROOT, check=True, stdout=subprocess.PIPE).stdout:
+        subprocess.run([ROOT / "bin" / "archive", "plates"], check=True, stdout=subprocess.DEVNULL)
     return built
 
 

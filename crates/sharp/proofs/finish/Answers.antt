@@ -28,12 +28,6 @@ front : (k : After-whole_front-xs) → k.whole_front-xs.result.now ≡ (sharp_la
 front k =
     sharp-points k.args.levels k.args.sharp.now k.args.indices.now k.args.coords.now k.args.nf k.args.nv k.requires.planned.0 k.requires.planned.1 k.args.words.now k.args.work.now k.requires.held k.requires.room.0 k.requires.room.1.0 k.whole_front-xs.result.now k.whole_front-xs.ensures
 
--- LEFT goal is gone: slice-bounds-copy-words-end
--- part-copy-words-end : tie.Need-slice-bounds-copy-words-end
--- part-copy-words-end c =
---     let s = c.before.before.before.before.before in
---     omega (arith, c.start.ensures, last-room s.args.levels s.args.sharp.now s.args.indices.now s.args.coords.now s.args.nf s.args.nv s.requires.0.0 s.requires.0.1 s.args.words.now s.args.work.now s.requires.1.0 s.requires.1.1.0 s.requires.1.1.1.0)
-
 pub limit-requires : goal.limit-requires
 limit-requires c = let f = front c.before.before in record { mesh = rw c.start-at.ensures (last-markable c.args.levels c.args.sharp.now c.args.indices.now c.args.coords.now c.args.nf c.args.nv c.requires.planned.0 c.requires.planned.1 c.args.words.now c.args.work.now c.requires.held c.requires.room.0 c.requires.room.1.0); coords = (
           rw f (omega (arith, sharp-long c.args.levels c.args.sharp.now c.args.indices.now c.args.coords.now c.args.nf c.args.nv c.requires.planned.0 c.requires.planned.1 c.args.words.now c.args.work.now c.requires.held c.requires.room.0 c.requires.room.1.0)),

@@ -1,0 +1,19 @@
+use native.Mathlib.Omega.{arith}
+use lib.ListN.{length}
+use borrow.Author.Rules.{rules}
+use Rattle.rules.specs.Position.{whole}
+use Rattle.levels.specs.Moves.{Placed, edges_in}
+use Rattle.creases.proofs.Moves.{points_kept, points-are}
+use Rattle.plain.proofs.points.refine_points.Goals as goal
+
+pub edge_points-requires : goal.edge_points-requires
+edge_points-requires c = let a = c.args in
+    let r = c.requires in
+    let p : Placed (length c.old_points.new.work) a.from a.to a.nv (edges_in a.words.now a.at a.nf) =
+    record { old = omega (arith, r.room.old); new = omega (arith, r.room.new); apart = r.room.apart } in
+    record { mesh = r.mesh; room = p; near = rw (c.old_points.ensures, points_kept whole a.words.now a.at a.marks a.nf a.nv a.work.now a.from a.to r.room) r.near }
+
+pub returns : goal.returns
+returns c = let a = c.args in
+    let r = c.requires in
+    points-are whole a.words.now a.at a.marks a.nf a.nv a.work.now a.from a.to r.room c.old_points.new.work c.edge_points.new.work c.old_points.ensures c.edge_points.ensures
