@@ -19,18 +19,17 @@ use Rattle.sheet.proofs.subdivide_by.Tie
 use Rattle.sheet.proofs.subdivide_by.Goals as goal
 
 abbrev In-Is : Type 0
-In-Is = Lts.Past-After-known_told Tie.the-claims Reads.Pre Reads.Post Tie.handed_clauses
+In-Is = Lts.Past-After-known_told Tie.the-claims Reads.Pre Reads.Post
 
 said : (o : Option Refusal) (r : Refusal) → verdict_of o ≡ No r → o ≡ some r
 said none r e = absurd (let z : ◌≡◌ {A = ℕ} 0 1 = cc in omega arith)
 said (some q) r e = let f : q ≡ r = cc in ap some f
 
-told : (k : In-Is) → (let v = k.vertices-1.given.0 in sheet_of k.args.bytes.now ≡ Is v.0 v.1.0 v.1.1.0)
+told : (k : In-Is) → sheet_of k.args.bytes.now ≡ Is k.in-Is.vertices k.in-Is.faces k.in-Is.levels
 told k = sym k.read_sheet.ensures ∙ k.in-Is.is
 
 pub subdivide_lists-requires : goal.subdivide_lists-requires
-subdivide_lists-requires c = let v = c.vertices-1.given.0 in
-    let s = shape_of v.1.1.0 (3 * v.1.0) (3 * v.0) (passes _ (sym c.shape.ensures ∙ c.in-Pass.is)) in
+subdivide_lists-requires c = let s = shape_of c.in-Is.levels (3 * c.in-Is.faces) (3 * c.in-Is.vertices) (passes _ (sym c.shape.ensures ∙ c.in-Pass.is)) in
     (omega (arith, s.verts), (omega (arith, s.faces), told c.before.before.before.before.before.before.before))
 
 pub returns-in-Refused : goal.returns-in-Refused

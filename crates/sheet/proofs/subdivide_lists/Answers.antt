@@ -13,13 +13,13 @@ use Rattle.sheet.proofs.subdivide_lists.Tie
 use Rattle.sheet.proofs.subdivide_lists.Goals as goal
 
 abbrev Start : Type 0
-Start = Lts.Start Tie.the-claims Reads.Pre Reads.Post Tie.handed_clauses
+Start = Lts.Start Tie.the-claims Reads.Pre Reads.Post
 
 abbrev After-coords_from : Type 0
-After-coords_from = Lts.After-coords_from Tie.the-claims Reads.Pre Reads.Post Tie.handed_clauses
+After-coords_from = Lts.After-coords_from Tie.the-claims Reads.Pre Reads.Post
 
 abbrev After-words_from : Type 0
-After-words_from = Lts.After-words_from Tie.the-claims Reads.Pre Reads.Post Tie.handed_clauses
+After-words_from = Lts.After-words_from Tie.the-claims Reads.Pre Reads.Post
 
 known : (s : Start) → Read s.args.bytes.now s.args.vertices s.args.faces s.args.levels
 known s = read _ _ _ _ s.requires.1.1

@@ -1,0 +1,6 @@
+use Prim.Native.Nat.{ℕ}
+use Rattle.objsheet.proofs.Laws.{so-long}
+use Rattle.objsheet.proofs.input_room.Goals as goal
+
+pub returns : goal.returns
+returns c = so-long {A = ℕ} 1900545 0
