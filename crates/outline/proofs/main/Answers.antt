@@ -1,0 +1,8 @@
+use mathlib.Core.Path.{sym}
+use native.Mathlib.Omega.{arith}
+use lib.Seq.{length-take-le}
+use borrow.Author.Rules.{rules}
+use Rattle.outline.proofs.main.Goals as goal
+
+pub slice_bounds-write_all-end : goal.slice_bounds-write_all-end
+slice_bounds-write_all-end c = sym (length-take-le _ _ (omega (arith, c.trace-k.ensures.upper_bound, c.trace-k.auto.text)))
