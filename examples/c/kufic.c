@@ -1,7 +1,7 @@
 /* A letter of square Kufic, a lam, cut with straight strokes and true corners: every edge where two faces meet at an angle is listed as sharp. Prints the plate as platecut
    lists one.
 
-       rt staticlib plates
+       bin/library
        gcc -I crates/plates -o kufic examples/c/kufic.c target/staticlib/libplates.a
 
    The gate builds it so, runs it, and holds what it prints to kufic.txt beside it. The library is for x86-64. */

@@ -1,6 +1,6 @@
 /* Cuts a cage through plates.h, and prints how many vertices, faces and rim sides came out, or what the refusal means.
 
-       rt staticlib plates
+       bin/library
        gcc -I crates/plates -o plate examples/c/plate.c target/staticlib/libplates.a
 
    The gate builds it so, runs it, and holds what it prints to plate.txt beside it. The library is for x86-64. */
