@@ -24,7 +24,7 @@ loop-i-smaller c = omega (arith, c.loop-i-test.true)
 pub loop-i-preserved : goal.loop-i-preserved
 loop-i-preserved c = let l = c.loop-i in
     let h = c.loop-i-test.true in
-    rw c.left_After.ensures (along-more _ _ _ _ _ _ _ _ _ l.invariant h _ _ c.entry-at.ensures.upper_bound c.entry-at.auto.text c.entry-at.ensures.put)
+    rw c.left_after-left.ensures (along-more _ _ _ _ _ _ _ _ _ l.invariant h _ _ c.entry-at.ensures.upper_bound c.entry-at.auto.text c.entry-at.ensures.put)
 
 pub shape_of-text : goal.shape_of-text
 shape_of-text c = c.loop-i.invariant.long
