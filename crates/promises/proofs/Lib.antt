@@ -1,4 +1,5 @@
 pub mod Promises
+pub mod SheetBound
 pub mod Together
 pub mod Marks
 pub mod Eleven

@@ -22,7 +22,7 @@ use Rattle.rules.specs.declared.Refusal.{Refusal}
 use Rattle.rules.specs.declared.Counts.{Counts}
 use Rattle.rules.specs.declared.Outcome.{Outcome}
 use Rattle.rules.specs.declared.Outcome.TheVariants.{Success, Refused}
-use Rattle.rules.proofs.Bound.{demand-3}
+use Rattle.rules.proofs.Demand.{demand-3}
 use Rattle.rules.proofs.Cage.{accepted}
 use Rattle.rules.proofs.Sound.{Sound}
 use Rattle.rules.proofs.Levels.{level, sound-level, mesh-levels, counts-level, rims-level}
@@ -215,8 +215,3 @@ module _ (bytes : List ℕ) (b : Lent (Buffers ℤ)) (c : Counts) (s : SheetCall
         words = s.words;
         work = s.work;
       }
-
-  -- demand 3 of a sheet
-  pub demand-3-of-a-sheet : (v k : ℕ) → v < c.vertices → k < 3
-      → Within (sheet_levels bytes + 1) (get_or b.new.positions (3 * v + k) (pos 0)) (coord exact (exact_limits (sheet_levels bytes) (sheet_indices bytes) (sheet_coords bytes)) k v)
-  demand-3-of-a-sheet v k h j = demand-3-of-the-call (sheet_levels bytes) (sheet_indices bytes) (sheet_coords bytes) b c call-of-a-sheet v k h j

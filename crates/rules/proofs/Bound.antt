@@ -6,13 +6,11 @@ use mathlib.Core.List.{List, [], ◌∷◌, map}
 use lib.ListN.{length, length-map}
 use lib.IntN.{ℤ, pos}
 use Rattle.lists.proofs.Pairs.{Pairs, nil, cons, pairs-at, pairs-length}
-use Rattle.whole.specs.Whole.{nearest}
 use Rattle.whole.specs.Fraction.{Fraction, of_whole, Within}
 use Rattle.whole.proofs.Rounding.{Rounds}
-use Rattle.whole.proofs.Half.{nearest-rounds}
 use Rattle.whole.proofs.Nearness.{Close, within, close-zero, close-whole, close-plus, close-times, close-over}
 use Rattle.rules.specs.Mesh.{cage}
-use Rattle.rules.specs.Position.{Rule, each, out_of, own, sum, total, whole_by, whole, exact}
+use Rattle.rules.specs.Position.{Rule, each, out_of, own, sum, total, whole_by, exact}
 use Rattle.rules.specs.Levels.{coord, last, positions, exact_limits}
 use Rattle.rules.proofs.Weights.{AddsUp}
 use Rattle.rules.proofs.Related.{Keeps, related-positions}
@@ -60,7 +58,3 @@ pub bound_by : (round : ℤ → ℕ → ℤ) → Rounds round → (l : ℕ) (fs 
 bound_by round N l fs xs c v =
     let p = related-positions (whole_by round) exact Close (keeps-close round N) l 0 (cage (length xs / 3) fs) xs (map of_whole xs) (control xs) in
     rw (length-map xs of_whole) (within (close-as (omega arith) (pairs-at (Close (suc (0 + l))) (pos 0) (of_whole (pos 0)) close-zero p (3 * v + c))))
-
--- and so for the engine's own rounding
-pub demand-3 : (l : ℕ) (fs : List ℕ) (xs : List ℤ) (c v : ℕ) → Within (l + 1) (coord whole (positions whole (last whole l fs xs)) c v) (coord exact (exact_limits l fs xs) c v)
-demand-3 = bound_by nearest nearest-rounds

@@ -21,6 +21,7 @@ pub mod Weights
 pub mod Growth
 pub mod Related
 pub mod Bound
+pub mod Demand
 pub mod Range
 pub mod Settled
 pub mod Sharp
@@ -28,3 +29,7 @@ pub mod Both
 pub mod Marked
 pub mod SharpSettled
 pub mod Axes
+pub mod Cases
+pub mod SharpCases
+pub mod AxesCases
+pub mod Orders

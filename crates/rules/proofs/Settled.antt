@@ -30,7 +30,7 @@ use Rattle.rules.proofs.Turns.{Round, Half, Turned, round, fringe, turned, last-
 use Rattle.rules.proofs.Rings.{spokes, sum_of, yonder, after-link, far-before, far-after, old-fan, old-ring}
 use Rattle.rules.proofs.Sound.{Sound, sound-refined, old-start}
 use Rattle.rules.proofs.Cage.{accepted}
-use Rattle.rules.proofs.Bound.{demand-3}
+use Rattle.rules.proofs.Demand.{demand-3}
 use Rattle.rules.proofs.Spokes.{edge-inner, edge-rim, limit-at, old-at, new-at}
 
 -- ---- a list of fractions over one denominator

@@ -11,5 +11,4 @@ pub mod Sheets
 pub mod Calls
 pub mod Cases
 pub mod SharpCases
-pub mod AxesCases
 pub mod Orders

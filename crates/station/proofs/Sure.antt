@@ -18,7 +18,7 @@ use Rattle.whole.proofs.Value.{Val, val-self, val-scale, val-as, val-eq}
 use Rattle.rules.specs.Mesh.{corner, Mesh, links}
 use Rattle.rules.specs.Position.{whole, exact}
 use Rattle.rules.specs.Levels.{last, positions, exact_limits}
-use Rattle.rules.proofs.Bound.{demand-3}
+use Rattle.rules.proofs.Demand.{demand-3}
 use Rattle.rules.proofs.Related.{same-mesh}
 use Rattle.rules.proofs.Spokes.{length-limits}
 use Rattle.station.specs.Acceptance.{turned, same_face, Passes}
