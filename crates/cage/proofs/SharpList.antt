@@ -1,24 +1,22 @@
 -- Request 6: what check 18 says, and that a list which passes it leaves a cage that passes all else.
 use mathlib.Core.Path.{◌≡◌, refl, sym, ap, ◌∙◌}
-use Prim.Native.Nat.{ℕ, zero, suc, ◌/◌, ◌≤◌, ◌<◌, min}
+use Prim.Native.Nat.{ℕ, suc, ◌/◌, ◌≤◌, ◌<◌, min}
 use native.Mathlib.Omega.{arith}
-use mathlib.Core.Bool.{Bool, true, false, not, ◌||◌}
-use mathlib.Core.List.{List, map}
+use mathlib.Core.Bool.{Bool, true, false, not}
+use mathlib.Core.List.{List}
 use mathlib.Core.Option.{Option, none, some}
-use lib.Dec.{eqb, leb}
-use lib.ListN.{length, get_or, take}
+use lib.Dec.{eqb}
+use lib.ListN.{length, get_or}
 use lib.Seq.{get_or-take}
 use borrow.Author.Tests.{le-leb, lt-leb, ne_eqb}
 use Rattle.lists.specs.Lists.{find, found}
-use Rattle.lists.proofs.Places.{get_d_map, find-is, Look, look, nowhere, there}
+use Rattle.lists.proofs.Places.{get_d_map, find-is}
 use Rattle.rules.specs.Mesh.{links}
 use Rattle.rules.specs.Position.{whole}
-use Rattle.rules.specs.Levels.{last}
 use Rattle.rules.specs.Refusals.{check, ◌or_else◌, refusal, shape_refusal, range_refusal, list_refusal, fan_refusal, size_refusal}
 use Rattle.rules.specs.Sharp.{unlinked, told, sharp_refusal, sharp_last}
 use Rattle.rules.specs.Answers.{counted, unless}
 use Rattle.rules.specs.declared.Refusal.{Refusal}
-use Rattle.rules.specs.declared.Counts.{Counts}
 use Rattle.rules.specs.declared.Outcome.TheVariants.{Success}
 use Rattle.rules.proofs.Sides.{length-links}
 use Rattle.rules.proofs.Sharp.{sharp-mesh}

@@ -1,5 +1,5 @@
 -- Request 6, with marks. The new positions of one level, for both kinds of number: what each point asks and is, and one point more of a loop.
-use Prim.Native.Nat.{ℕ, ◌+◌, ◌-◌, ◌*◌, ◌≤◌, ◌<◌}
+use Prim.Native.Nat.{ℕ, ◌+◌, ◌*◌, ◌≤◌, ◌<◌}
 use mathlib.Core.Path.{◌≡◌, refl, sym, ap, ap₂, ◌∙◌}
 use mathlib.Core.Logic.{⊎_elim, inl, inr}
 use mathlib.Core.Bool.{Bool, true, false}
@@ -21,7 +21,7 @@ use Rattle.rules.proofs.Sides.{on_below}
 use Rattle.rules.proofs.Range.{AllNear}
 use Rattle.faces.specs.Words.{link_of, links_in}
 use Rattle.faces.proofs.Held.{links-held, link-coded, corner-word, link-word}
-use Rattle.weights.specs.Lent.{on_rim, within, Readable, AllReadable}
+use Rattle.weights.specs.Lent.{on_rim, Readable, AllReadable}
 use Rattle.weights.proofs.Joins.{rim-edge}
 use Rattle.levels.specs.Level.{mesh_in}
 use Rattle.levels.specs.Moves.{Placed, edges_in, edge_point}

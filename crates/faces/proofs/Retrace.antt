@@ -10,7 +10,7 @@ use lib.Dec.{eqb, eqb→eq}
 use lib.ListN.{length, get_or}
 use Rattle.lists.specs.Lists.{last_of, pick}
 use Rattle.lists.proofs.Places.{last-at}
-use Rattle.rules.specs.Mesh.{onward, backward, corner, Step, home, off, here, ended, long, walk, passed, stop_of, step_to, through, next_corner, prev_corner}
+use Rattle.rules.specs.Mesh.{onward, backward, corner, Step, home, off, here, ended, walk, passed, stop_of, step_to, through, next_corner, prev_corner}
 use Rattle.faces.specs.Rings.{inners, backs, down_from}
 use Rattle.lists.proofs.Places.{get_d_map}
 use Rattle.rules.proofs.Sides.{back_on}

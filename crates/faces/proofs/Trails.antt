@@ -15,7 +15,6 @@ use Rattle.rules.specs.Mesh.{closed, ended, long, walk, passed, stop_of, Stop, h
 use Rattle.rules.proofs.Walks.{trail, chain, last-stop, Stopped, all_of}
 use Rattle.faces.specs.Words.{links_in}
 use Rattle.faces.specs.Rings.{Walkable, Ends, step_of, trip_by, trip_of}
-use Rattle.faces.specs.declared.walks.Step.{Step}
 use Rattle.faces.specs.declared.walks.Step.TheVariants as step
 use Rattle.faces.specs.declared.walks.Trip.TheVariants as trip
 use Rattle.faces.proofs.Links.{next-below, length-links_in}

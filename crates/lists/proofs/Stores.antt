@@ -9,7 +9,7 @@ use native.Mathlib.Numerals.{add-one}
 use native.Mathlib.Nat.{add-zero, zero-add, mul-zero, mul-suc, mul-le-mul_left}
 use lib.ListN.{length, get_or, set, take, drop, replicate, length-append, length-drop, length-replicate}
 use lib.Seq.{sets, sets-eq, take-suc, length-take-le, get_or-set_other, get_or-take, get_or-drop, drop-set-lt, drop-set-add, take-set-le, take_at, take-add, drop_at, drop-drop}
-use Rattle.lists.specs.Lists.{pick, bit, rows, turns, part, cleared, count, keep, tally, gather}
+use Rattle.lists.specs.Lists.{pick, bit, rows, part, cleared, count, keep, tally, gather}
 use Rattle.lists.proofs.Places.{length-count, length-gather, length-keep, rank_lt, rank-le, count_next, keep-next, tally-next, gather_append}
 
 module _ {ℓ} {A : Type ℓ} where

@@ -7,8 +7,8 @@ ghost use Rattle.rules.specs.Calls.{given, lent};
 ghost use Rattle.writer.specs.Writing.{WriteCall};
 ghost use Rattle.makesheet.specs.Lists.{refused_by, MakeCall};
 
-use listing::{STDERR_FILENO, STDIN_FILENO, STDOUT_FILENO};
 use limits::Check;
+use listing::{STDERR_FILENO, STDIN_FILENO, STDOUT_FILENO};
 use rules::Refusal;
 use writer::Written;
 

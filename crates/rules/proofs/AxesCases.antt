@@ -1,10 +1,10 @@
 -- Turns on one vertex, and on plates: T exchanged, mirrored and turned by a quarter; a plate moved sideways, which is not promised, and not so.
-use Rattle.std.specs.Prelude.{◌≡◌, refl, ℕ, List, [], ◌∷◌, map, ℤ, pos, negsuc}
+use Rattle.std.specs.Prelude.{refl, [], ◌∷◌, pos, negsuc}
 use Rattle.whole.specs.Whole.{nearest}
 use Rattle.rules.specs.Mesh.{links, fan, refined, cage}
 use Rattle.rules.specs.Levels.{levels, finer, new_positions, limits, moved, positions}
-use Rattle.rules.specs.Cases.{zs, T-faces, T-points, limits_of, vertex, Case, case, Hold}
-use Rattle.rules.specs.Sharp.{sharp_last, sharp_positions, sharp_levels, sharp_finer, sharp_limits, sharp_new, sharp_moved, marks_of, finer_marks}
+use Rattle.rules.specs.Cases.{zs, T-faces, T-points, limits_of, vertex, case, Hold}
+use Rattle.rules.specs.Sharp.{sharp_positions, sharp_levels, sharp_finer, sharp_limits, sharp_new, sharp_moved, marks_of, finer_marks}
 use Rattle.rules.specs.SharpCases.{plate, plate-points, sharp_limits_of}
 use Rattle.rules.specs.Axes.{x_axis, z_axis, Turn, turned, negating, exchanging, then, inverse}
 

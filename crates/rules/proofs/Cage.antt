@@ -5,18 +5,18 @@ use native.Mathlib.Omega.{arith}
 use mathlib.Core.Bool.{Bool, not}
 use mathlib.Core.List.{List}
 use mathlib.Core.Option.{Option, none}
-use lib.Dec.{T, ltb, eqb, eqb→eq, nltb→le}
+use lib.Dec.{T, eqb, eqb→eq, nltb→le}
 use lib.Ieee.Fits.{eq→eqb}
 use lib.ListN.{length, get_or, length-map}
-use Rattle.lists.specs.Lists.{count, find, found, keep, tally, lowest}
-use Rattle.rules.specs.Mesh.{corner, links, last_corner, Fan, fan, corners, cage}
+use Rattle.lists.specs.Lists.{count, find, found, keep, tally}
+use Rattle.rules.specs.Mesh.{corner, links, last_corner, fan, corners, cage}
 use Rattle.rules.specs.Position.{Numbers}
 use Rattle.rules.specs.Refusals.{refusal, parted, fans_of, size_refusal}
 use Rattle.lists.proofs.Places.{length-count, get_or-count, get_d_map, Look, nowhere, there, look, length-keep, last-at}
 use Rattle.lists.proofs.Counting.{Kept, kept, tally-without, tally-at}
 use Rattle.rules.proofs.Refine.{Good}
 use Rattle.rules.proofs.Checks.{Shape, Fans, stages-of, shape_of, range-of, fans-of, good-list}
-use Rattle.rules.proofs.Turns.{Turned, round, fringe, turned, covers, corners_at}
+use Rattle.rules.proofs.Turns.{Turned, turned, covers, corners_at}
 use Rattle.rules.proofs.Sound.{Sound}
 
 -- a vertex that is used starts at a corner of its own

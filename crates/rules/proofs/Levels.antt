@@ -11,7 +11,7 @@ unfoldable pub use Rattle.rules.specs.Sound.{Small}
 use Rattle.rules.specs.Mesh.{links, rims, restart, fourth, firsts, fan, valence, Mesh, refined}
 use Rattle.rules.specs.Position.{Numbers}
 use Rattle.rules.specs.Levels.{Sizes, after, Level, finer, levels}
-use Rattle.rules.proofs.Refine.{Good, finer_of, length-finer, edges}
+use Rattle.rules.proofs.Refine.{Good, finer_of, length-finer}
 use Rattle.rules.proofs.Grown.{grown, links-grown}
 use Rattle.rules.proofs.Number.{first-at}
 use Rattle.rules.proofs.Rings.{old-valence, new-valence-inner, new-valence-rim}

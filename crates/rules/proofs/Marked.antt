@@ -3,24 +3,24 @@ use mathlib.Core.Path.{◌≡◌, refl, sym, ap, ap₂, ◌∙◌}
 use Prim.Native.Nat.{ℕ, zero, suc, ◌+◌, ◌*◌, ◌/◌, ◌<◌}
 use native.Mathlib.Omega.{arith}
 use mathlib.Core.Bool.{Bool, true, false, ◌||◌}
-use mathlib.Core.List.{List, [], ◌∷◌, map}
+use mathlib.Core.List.{List, [], ◌∷◌}
 use mathlib.Core.Option.{Option, none, some}
-use lib.Dec.{eqb, eqb→eq, eqb_refl}
+use lib.Dec.{eqb, eqb→eq}
 use lib.ListN.{length, get_or}
 use lib.IntN.{ℤ}
 use borrow.Author.Tests.{eq-eqb, lt-leb}
-use Rattle.lists.specs.Lists.{pick, count, later, find, found, gather}
+use Rattle.lists.specs.Lists.{pick, count, later, find, found}
 use Rattle.lists.proofs.Places.{gather-one, gather-same}
 use Rattle.rules.specs.Mesh.{links, Mesh, cage, refined}
 use Rattle.rules.specs.Position.{Numbers, whole}
 use Rattle.rules.specs.Refusals.{refusal}
-use Rattle.rules.specs.Sharp.{sharp, names, names_across, marks_of, finer_marks, sharp_new, sharp_limits, SharpLevel, sharp_first, sharp_finer, sharp_levels, sharp_last, sharp_positions, unlinked}
-use Rattle.rules.proofs.Refine.{Good, finer_of}
+use Rattle.rules.specs.Sharp.{names, names_across, marks_of, finer_marks, sharp_new, sharp_limits, SharpLevel, sharp_first, sharp_finer, sharp_levels, sharp_last, sharp_positions, unlinked}
+use Rattle.rules.proofs.Refine.{Good}
 use Rattle.rules.proofs.Sides.{length-links}
 use Rattle.rules.proofs.Faces.{link-below, link-link}
 use Rattle.rules.proofs.Sound.{Sound, sound-refined}
 use Rattle.rules.proofs.Levels.{refined-faces}
-use Rattle.rules.proofs.Cage.{Accepted, accepted}
+use Rattle.rules.proofs.Cage.{accepted}
 use Rattle.rules.proofs.Range.{AllNear, In, paired, unpaired, keeps, near-cage}
 use Rattle.rules.proofs.Sharp.{related-sharp-new, related-sharp-limits}
 use Rattle.rules.proofs.Both.{Both, both-finer, both_first, later-none, found-later}

@@ -15,7 +15,7 @@ use Rattle.whole.proofs.Half.{nearest-rounds}
 use Rattle.whole.proofs.Sums.{in_range-near}
 pub use Rattle.rules.specs.Sound.{AllNear}
 use Rattle.rules.specs.Position.{Rule, each, out_of, own, sum, whole_by, whole}
-use Rattle.rules.specs.Levels.{Level, first, last, levels, limits, positions}
+use Rattle.rules.specs.Levels.{Level, first, last, levels, positions}
 use Rattle.rules.specs.Refusals.{refusal}
 use Rattle.rules.proofs.Fans.{T_true}
 use Rattle.rules.proofs.Cage.{accepted}

@@ -14,7 +14,7 @@ use lib.IntN.{ℤ, pos, nat_abs, ◌-ℤ◌}
 use Rattle.lists.specs.Lists.{last_of}
 use Rattle.lists.proofs.Places.{map-map, last-at, last-map, either_way}
 use Rattle.whole.specs.Whole.{nearest}
-use Rattle.whole.specs.Fraction.{Fraction, of_whole, over, ◌≈F◌}
+use Rattle.whole.specs.Fraction.{Fraction, of_whole, ◌≈F◌}
 use Rattle.whole.proofs.Reading.{up, dn, is-self, is-minus, abs2-le}
 use Rattle.whole.proofs.Nearness.{Close, near_of, close-eq, close-near}
 use Rattle.whole.proofs.Value.{Val, val-self, val-scale, val-as, val-zero, val_plus, val-times, val-over, val-eq, ≈F-trans, ≈F-refl}

@@ -16,8 +16,8 @@ use Rattle.whole.proofs.Rounding.{Rounds}
 use Rattle.whole.proofs.Half.{nearest-rounds}
 use Rattle.whole.proofs.Nearness.{Close, within, close-zero}
 use Rattle.rules.specs.Mesh.{onward, backward, corner, links, Fan, inner, rim, fan, ring, Mesh, cage, firsts, refined}
-use Rattle.rules.specs.Position.{Stage, refining, limit, Rule, ring_rule, rim_rule, Numbers, whole, whole_by, exact}
-use Rattle.rules.specs.Levels.{coord, three, blended, moved, edge_at, new_positions, limits, first, finer, levels, last, positions, Level}
+use Rattle.rules.specs.Position.{Stage, refining, limit, ring_rule, rim_rule, Numbers, whole, whole_by, exact}
+use Rattle.rules.specs.Levels.{coord, three, blended, moved, edge_at, new_positions, limits, finer, levels, last, positions, Level}
 use Rattle.rules.specs.Refusals.{Room, refusal}
 use Rattle.rules.specs.Answers.{outcome, written}
 use Rattle.rules.specs.Calls.{Lent, Buffers, whole_room, SharpCall, WholeCall}

@@ -1,28 +1,27 @@
 -- Request 6 beside request 5: at a vertex that is an end of no marked side all goes as with no marks, so its exact limit position does not change there when a level is
 -- applied first, and the whole answers at two numbers of levels differ by rounding alone.
 use mathlib.Core.Path.{◌≡◌, refl, sym, ap, ap₂, subst, ◌∙◌}
-use mathlib.Core.Logic.{◌≢◌}
 use Prim.Native.Nat.{ℕ, zero, suc, ◌+◌, ◌-◌, ◌*◌, ◌/◌, ◌<◌, ◌≤◌, min, suc-le-suc, zero-le}
 use native.Mathlib.Omega.{arith}
-use mathlib.Core.Bool.{Bool, true, false, ◌||◌}
+use mathlib.Core.Bool.{Bool, true, false}
 use mathlib.Core.List.{List, [], ◌∷◌, ◌++◌, map}
 use mathlib.Core.Option.{Option, none, some}
 use lib.Dec.{leb, leb→le, nleb→lt}
 use lib.ListN.{length, get_or, length-map, get_or-append}
 use lib.Seq.{get_or-append-add}
-use lib.IntN.{ℤ, pos, nat_abs, ◌-ℤ◌}
-use Rattle.lists.specs.Lists.{pick, count, find, keep, gather, last_of}
+use lib.IntN.{ℤ, nat_abs, ◌-ℤ◌}
+use Rattle.lists.specs.Lists.{count, find, keep, gather, last_of}
 use Rattle.lists.proofs.Places.{length-count, get_or-count, length-gather, get_or-gather}
 use Rattle.whole.specs.Fraction.{Fraction, of_whole, ◌≈F◌}
 use Rattle.whole.proofs.Nearness.{near_of, close-eq, close-near}
 use Rattle.whole.proofs.Value.{≈F-trans, ≈F-refl}
 use Rattle.rules.specs.Mesh.{onward, backward, corner, links, restart, firsts, first_of, Fan, inner, rim, endless, corners, fan, ring, Mesh, cage, refined}
-use Rattle.rules.specs.Position.{Stage, refining, limit, Rule, ring_rule, rim_rule, Numbers, whole, exact}
-use Rattle.rules.specs.Levels.{ends, coord, three, blended, edge_at, new_positions, limits, Level, finer, positions}
+use Rattle.rules.specs.Position.{Stage, refining, limit, ring_rule, rim_rule, Numbers, whole, exact}
+use Rattle.rules.specs.Levels.{ends, coord, three, blended, new_positions, limits, finer, positions}
 use Rattle.rules.specs.Refusals.{refusal}
-use Rattle.rules.specs.Sharp.{sharp, names, names_across, marks_of, finer_marks, creases, creased, sharp_moved, sharp_edge, sharp_new, sharp_limits, SharpLevel, sharp_first, sharp_finer, sharp_levels, sharp_last, sharp_positions, sharp_exact, unlinked, EndOfNone}
+use Rattle.rules.specs.Sharp.{sharp, names, names_across, marks_of, finer_marks, creased, sharp_moved, sharp_edge, sharp_new, sharp_limits, SharpLevel, sharp_first, sharp_finer, sharp_levels, sharp_last, sharp_positions, sharp_exact, unlinked, EndOfNone}
 use Rattle.rules.proofs.Sides.{on-back, length-links}
-use Rattle.rules.proofs.Refine.{Good, finer_of, mid_of, mid-below, back_below}
+use Rattle.rules.proofs.Refine.{Good, mid_of, mid-below, back_below}
 use Rattle.rules.proofs.Faces.{link-twins}
 use Rattle.rules.proofs.Links.{restart-below}
 use Rattle.rules.proofs.Number.{first-of}
@@ -37,7 +36,7 @@ use Rattle.rules.proofs.Spokes.{three-at, limit-at, old-at, new-at}
 use Rattle.rules.proofs.Settled.{limit-stays, gap, ≈F-as}
 use Rattle.rules.proofs.Sharp.{sharp-demand-3}
 use Rattle.rules.proofs.Both.{Both, mark-half1, mark-half2, both_first, marks-at}
-use Rattle.rules.proofs.Marked.{both-refined, BothAt, both-next}
+use Rattle.rules.proofs.Marked.{BothAt, both-next}
 
 -- ---- each of a list
 

@@ -1,5 +1,5 @@
 -- What the proof of `narrow::narrow` cites: the pattern b of an f64 x that is no NaN, and the pattern that the sign's bit and a magnitude make.
-use Rattle.std.proofs.Common.{◌≡◌, ℕ, zero, suc, ◌+◌, ◌*◌, ◌/◌, ◌%◌, ◌^◌, ◌<◌, ◌≤◌, Bool, true, false, cond, not, T, ltb, leb, sym, refl, ap, ◌∙◌, subst, true≢false, arith, leb→le}
+use Rattle.std.proofs.Common.{◌≡◌, ℕ, zero, suc, ◌+◌, ◌*◌, ◌/◌, ◌^◌, ◌<◌, ◌≤◌, Bool, true, false, cond, not, T, ltb, leb, sym, refl, ap, ◌∙◌, subst, true≢false, arith, leb→le}
 use lib.Dec.{nleb→lt}
 use lib.Ieee.{Float, nan, inf, fin, Format, binary32, binary64, prec, emax, low, odd, units, up, down, ne, div, is_nan, fits, of_bits, to_bits, nan_bits}
 use lib.Ieee.Fits.{round_is, round-fits, nan-fits, inf-fits}

@@ -1,11 +1,11 @@
 -- The pattern of the f32 nearest to an f64, by the fields of the f64's own pattern: its sign s, the exponent's field x and the digits t.
 -- In units of 2 ^ -149, the least f32, the f64 is (2 ^ 52 + t) * 2 ^ (x - 926).
-use Rattle.std.proofs.Common.{◌≡◌, ℕ, zero, suc, ◌+◌, ◌-◌, ◌*◌, ◌/◌, ◌%◌, ◌^◌, ◌<◌, ◌≤◌, min, Bool, true, false, cond, not, ◌&&◌, T, eqb, leb, ◌⊎◌, sym, refl, ap, ◌∙◌, subst, inl, inr, le_trans, le_of_eq, lt_of_lt_of_le, le-add_right, lt_of_le_of_lt, add-zero, lt_irrefl, mul-le-mul_right, mod-eq_of_lt, mul_assoc, div-lt_iff_lt-mul, le-div_iff_mul-le, mul-one, arith, lit<, lit≤, eqb→eq, pow_pos, pow_mono, pow-add, shl_lt}
+use Rattle.std.proofs.Common.{◌≡◌, ℕ, zero, suc, ◌+◌, ◌-◌, ◌*◌, ◌/◌, ◌%◌, ◌^◌, ◌<◌, ◌≤◌, min, Bool, true, false, cond, not, ◌&&◌, T, eqb, leb, sym, refl, ap, ◌∙◌, subst, le_trans, le_of_eq, lt_of_lt_of_le, lt_of_le_of_lt, mul-le-mul_right, mod-eq_of_lt, mul_assoc, div-lt_iff_lt-mul, le-div_iff_mul-le, mul-one, arith, lit<, lit≤, eqb→eq, pow_pos, pow_mono, pow-add, shl_lt}
 use Prim.Native.Nat.{compare, Ordering}
 use native.Mathlib.Nat.{div-eq_of_lt}
 use lib.Ieee.{Float, nan, inf, fin, binary32, binary64, up, down, size, nearest, odd, round, to_bits, of_fields, of_bits, nan_bits}
 use lib.Ieee.Digits.{size-le}
-use lib.Ieee.Fits.{down_pos, and_i, nearest-le}
+use lib.Ieee.Fits.{down_pos, nearest-le}
 use lib.Ieee.Exact.{HasValue, odd_sign}
 use lib.Ieee.Nearest.{closest, closest_same}
 use lib.Ieee.Order.{drop}

@@ -1,15 +1,14 @@
 -- The bit pattern of a rounded fraction, by the digits that `round` drops and the number that it keeps.
-use Rattle.std.proofs.Common.{◌≡◌, ℕ, zero, suc, ◌+◌, ◌-◌, ◌*◌, ◌/◌, ◌%◌, ◌^◌, ◌<◌, ◌≤◌, min, Bool, true, false, cond, not, T, ltb, ◌⊎◌, ℤ, sym, refl, ap, ◌∙◌, subst, inl, inr, le_trans, le_of_eq, lt_of_lt_of_le, le_of_suc-le-suc, lt_of_le_of_lt, add_assoc, lt_irrefl, mul-le-mul_right, div-lt_iff_lt-mul, eq-zero-or-pos, le_antisymm, lt_of_mul-lt-mul_right, eq-or-lt_of_le, mul-pos, one-mul, lt_of_not-le, le-div_iff_mul-le, mul-one, le_of_mul-le-mul_right, div-one, mul-div_cancel, arith, lit<, lit≤, ltb→lt, nltb→le, pow_pos, pow_mono, pow-add, shl_lt}
+use Rattle.std.proofs.Common.{◌≡◌, ℕ, zero, suc, ◌+◌, ◌-◌, ◌*◌, ◌/◌, ◌%◌, ◌^◌, ◌<◌, ◌≤◌, min, Bool, true, false, cond, not, T, ltb, ◌⊎◌, sym, refl, ap, ◌∙◌, subst, inl, inr, le_trans, le_of_eq, lt_of_lt_of_le, lt_of_le_of_lt, add_assoc, lt_irrefl, mul-le-mul_right, eq-zero-or-pos, le_antisymm, lt_of_mul-lt-mul_right, eq-or-lt_of_le, lt_of_not-le, le-div_iff_mul-le, mul-one, le_of_mul-le-mul_right, div-one, mul-div_cancel, arith, lit<, lit≤, ltb→lt, nltb→le, pow_pos, pow_mono, pow-add, shl_lt}
 use Prim.Native.Nat.{compare}
 use native.Mathlib.Nat.{div-div-eq-div-mul}
 use lib.Pow.{pow-lt}
-use lib.Ieee.{Float, nan, inf, fin, binary32, up, down, size, nearest, odd, units, round, to_bits, fits, of_bits}
+use lib.Ieee.{Float, nan, inf, fin, binary32, down, size, odd, units, round, to_bits}
 use lib.Ieee.Digits.{size-lt, size-le, size_reaches}
-use lib.Ieee.Fits.{round_is, round-fits, nearest-le, kept-lt, down_pos}
+use lib.Ieee.Fits.{round_is, nearest-le, kept-lt, down_pos}
 use lib.Ieee.Exact.{HasValue, odd_sign}
 use lib.Ieee.Nearest.{closest, nearest-ge}
 use lib.Ieee.Order.{drop, kept}
-use lib.Ieee.Bits.{of_bits-to_bits}
 use Rattle.vectors.specs.Narrow.{sign}
 
 pow_lt_back : (i p : ℕ) → 2 ^ i < 2 ^ p → i < p

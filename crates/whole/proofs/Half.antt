@@ -5,7 +5,7 @@ use native.Mathlib.Omega.{arith}
 use native.Mathlib.Nat.{div-add-mod', mod-lt, div-eq_of_lt, lt_of_mul-lt-mul_right}
 use lib.IntN.{ℤ, pos, negsuc, neg_ℤ, sub_ℕ, neg_ℤ-neg_ℤ}
 use borrow.Author.Tests.{lt-ltb, le-ltb}
-use Rattle.whole.specs.Whole.{reach, round_up, nearest, under, lower}
+use Rattle.whole.specs.Whole.{reach, nearest, under, lower}
 use Rattle.whole.proofs.Reading.{up, dn, Is, is-self, is_pos, is-neg, is-sub, is_eq}
 use Rattle.whole.proofs.Rounding.{Nearest, Rounds}
 

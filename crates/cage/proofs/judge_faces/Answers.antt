@@ -7,7 +7,6 @@ use Rattle.rules.specs.Refusals.{check, ◌or_else◌, equal_corners}
 use Rattle.rules.specs.declared.Outcome.TheVariants.{Success}
 use Rattle.cage.specs.Sizes.{cage_counts, from_seven}
 use Rattle.cage.proofs.Stages.{judged-five, below_of, apart_of, unless-no, unless-goes}
-use borrow.Author.Rules.{rules}
 use Rattle.cage.proofs.judge_faces.Goals as goal
 
 pub judge_sides-requires : goal.judge_sides-requires

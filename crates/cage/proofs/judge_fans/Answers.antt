@@ -4,7 +4,6 @@ use Rattle.rules.specs.Refusals.{fan_refusal}
 use Rattle.cage.specs.Sizes.{from_marks}
 use Rattle.cage.proofs.Rounds.{counted_none}
 use Rattle.cage.proofs.Stages.{below_more, unless-no, unless-goes}
-use borrow.Author.Rules.{rules}
 use Rattle.cage.proofs.judge_fans.Goals as goal
 
 pub count_corners-requires : goal.count_corners-requires

@@ -5,7 +5,6 @@ use Rattle.lists.specs.Lists.{lowest, found}
 use Rattle.rules.specs.Refusals.{check, same_set}
 use Rattle.cage.specs.Sizes.{from_nine}
 use Rattle.cage.proofs.Stages.{listed_of, unless-no, unless-goes}
-use borrow.Author.Rules.{rules}
 use Rattle.cage.proofs.judge_links.Goals as goal
 
 pub doubled-requires : goal.doubled-requires

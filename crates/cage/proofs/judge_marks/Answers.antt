@@ -1,10 +1,9 @@
-use mathlib.Core.Path.{◌≡◌, sym, ◌∙◌}
+use mathlib.Core.Path.{sym, ◌∙◌}
 use Rattle.lists.specs.Lists.{find}
 use Rattle.rules.specs.Mesh.{links}
 use Rattle.rules.specs.Sharp.{unlinked, told}
 use Rattle.rules.specs.Refusals.{check, size_refusal}
 use Rattle.cage.proofs.Stages.{unless-no, unless-goes}
-use borrow.Author.Rules.{rules}
 use Rattle.cage.proofs.judge_marks.Goals as goal
 
 pub marks-requires : goal.marks-requires

@@ -9,7 +9,6 @@ use Rattle.cage.specs.Sizes.{from_eight}
 use Rattle.cage.proofs.Chains.{heads-none, chained-none}
 use Rattle.cage.proofs.Across.{words-stored}
 use Rattle.cage.proofs.Stages.{below_more, once-of, unless-no, unless-goes}
-use borrow.Author.Rules.{rules}
 use Rattle.cage.proofs.judge_sides.Goals as goal
 
 pub chain-requires : goal.chain-requires

@@ -10,7 +10,6 @@ use Rattle.limits.specs.declared.Check.TheVariants.{Pass}
 use Rattle.limits.proofs.Search.{passes}
 use Rattle.cage.proofs.Sizes.{counts-ahead}
 use Rattle.cage.proofs.Stages.{faces-of, coords-few, unless-no, unless-goes}
-use borrow.Author.Rules.{rules}
 use Rattle.cage.proofs.judge_single.Lts
 use Rattle.cage.proofs.judge_single.Reads
 use Rattle.cage.proofs.judge_single.Tie

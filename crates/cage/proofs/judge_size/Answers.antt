@@ -13,7 +13,6 @@ use Rattle.cage.specs.Sizes.{cage_counts}
 use Rattle.cage.proofs.Rounds.{links-all, rims-few}
 use Rattle.cage.proofs.Sizes.{sizes-are, size_is}
 use Rattle.cage.proofs.Stages.{good_of, unless-refused, unless-last}
-use borrow.Author.Rules.{rules}
 use Rattle.cage.proofs.judge_size.Lts
 use Rattle.cage.proofs.judge_size.Reads
 use Rattle.cage.proofs.judge_size.Tie

@@ -1,14 +1,11 @@
 use native.Mathlib.Omega.{arith}
-use mathlib.Core.Path.{◌≡◌, ap, ap₂, ◌∙◌}
-use mathlib.Core.List.{List, map}
+use mathlib.Core.Path.{◌≡◌, ap₂, ◌∙◌}
+use mathlib.Core.List.{List}
 use Prim.Native.Nat.{ℕ, ◌+◌}
 use lib.ListN.{length}
 use lib.Seq.{sets}
-use Rattle.rules.specs.Mesh.{links, cage}
-use Rattle.faces.specs.Words.{coded}
 use Rattle.cage.proofs.Chains.{heads-none, chained-none}
 use Rattle.cage.proofs.Rounds.{starts-are}
-use borrow.Author.Rules.{rules}
 use Rattle.cage.proofs.link_words.Goals as goal
 
 pub chain-requires : goal.chain-requires

@@ -46,5 +46,8 @@ returns-in-Refused c = let i = c.args.input.now in
 pub returns-in-Is : goal.returns-in-Is
 returns-in-Is c = let i = c.args.input.now in
     let p = sheet-part i c.word_at-long.result c.word_at-long.ensures in
-    let r = read _ _ _ _ (rw p at (raw c.before.before.before.before.before.before.before)) in record { spoken = judged (early-good i c.word_at-long.result c.word_at-long.ensures c.if-n-lt8.false c.if-long-gt32768.false c.if-n-end.false r.good)
-          (rw (c.word_at-t.ensures, p, listing-part i c.word_at-long.result c.word_at-long.ensures) at c.judge.ensures.judged); upper_bound = c.judge.ensures.upper_bound }
+    let r = read _ _ _ _ (rw p at (raw c.before.before.before.before.before.before.before)) in record {
+      spoken = judged (early-good i c.word_at-long.result c.word_at-long.ensures c.if-n-lt8.false c.if-long-gt32768.false c.if-n-end.false r.good)
+          (rw (c.word_at-t.ensures, p, listing-part i c.word_at-long.result c.word_at-long.ensures) at c.judge.ensures.judged);
+      upper_bound = c.judge.ensures.upper_bound;
+    }

@@ -1,5 +1,4 @@
 use native.Mathlib.Omega.{arith}
-use borrow.Author.Rules.{rules}
 use Rattle.creases.proofs.Counted.{pair_readable}
 use Rattle.creases.proofs.crease.Goals as goal
 

@@ -1,6 +1,5 @@
 use native.Mathlib.Omega.{arith}
 use mathlib.Core.Path.{◌∙◌}
-use borrow.Author.Rules.{rules}
 use Rattle.rules.specs.Position.{whole}
 use Rattle.weights.specs.Weights.{staged}
 use Rattle.creases.proofs.Counted.{count-ring, count-pair, count-stay}

@@ -1,11 +1,8 @@
-use Prim.Native.Nat.{ℕ, ◌+◌, ◌-◌, ◌*◌, ◌≤◌, ◌<◌}
+use Prim.Native.Nat.{ℕ, ◌+◌, ◌*◌, ◌≤◌, ◌<◌}
 use mathlib.Core.Path.{◌≡◌, refl, ap, ◌∙◌}
 use lib.ListN.{length, get_or}
-use lib.Seq.{sets, length-sets}
-use Rattle.lists.specs.Lists.{count, gather, part}
-use Rattle.levels.specs.Level.{links_by}
+use lib.Seq.{length-sets}
 use Rattle.levels.proofs.Rows.{links-more, links-small}
-use borrow.Author.Rules.{rules}
 use native.Mathlib.Omega.{arith}
 use Rattle.levels.proofs.child_links.Goals as goal
 

@@ -1,12 +1,9 @@
-use Prim.Native.Nat.{ℕ, ◌+◌, ◌-◌, ◌*◌, ◌≤◌, ◌<◌}
-use mathlib.Core.Path.{◌≡◌, refl, ap, ◌∙◌}
-use lib.ListN.{length, get_or}
-use lib.Seq.{sets, length-sets}
+use Prim.Native.Nat.{◌-◌, ◌*◌, ◌≤◌}
+use mathlib.Core.Path.{◌≡◌}
+use lib.ListN.{length}
+use lib.Seq.{sets}
 use Rattle.lists.specs.Lists.{count, gather, part}
 use Rattle.levels.specs.Level.{links_by}
-use Rattle.levels.proofs.Rows.{links-more, links-small}
-use borrow.Author.Rules.{rules}
-use native.Mathlib.Omega.{arith}
 use Rattle.levels.proofs.child_links.Given as goal
 
 abbrev pub invariant-loop-f : goal.invariant-loop-f

@@ -1,12 +1,9 @@
 use Prim.Native.Nat.{◌-◌, ◌*◌, ◌≤◌}
-use mathlib.Core.Path.{◌≡◌, refl, ap, ◌∙◌}
+use mathlib.Core.Path.{◌≡◌}
 use lib.ListN.{length}
-use lib.Seq.{sets, length-sets}
+use lib.Seq.{sets}
 use Rattle.lists.specs.Lists.{count, gather, part}
 use Rattle.levels.specs.Level.{children_by}
-use Rattle.levels.proofs.Rows.{children-more}
-use borrow.Author.Rules.{rules}
-use native.Mathlib.Omega.{arith}
 use Rattle.levels.proofs.children.Given as goal
 
 abbrev pub invariant-loop-f : goal.invariant-loop-f

@@ -1,5 +1,4 @@
 use native.Mathlib.Omega.{arith}
-use borrow.Author.Rules.{rules}
 use mathlib.Core.Path.{sym, ◌∙◌}
 use Rattle.levels.proofs.Links.{Later, later-word}
 use Rattle.levels.proofs.edge_number.Lts

@@ -1,4 +1,3 @@
-use borrow.Author.Rules.{rules}
 use Rattle.levels.proofs.Links.{met-no-earlier}
 use Rattle.levels.proofs.first_met.Goals as goal
 

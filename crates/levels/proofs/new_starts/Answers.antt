@@ -1,15 +1,11 @@
-use Prim.Native.Nat.{◌-◌, ◌≤◌, ◌<◌}
+use Prim.Native.Nat.{◌<◌}
 use mathlib.Core.Path.{◌≡◌, refl, sym, ◌∙◌}
-use mathlib.Core.Logic.{⊎_elim}
 use mathlib.Core.Bool.{true}
 use lib.ListN.{length, length-set}
-use lib.Seq.{sets}
-use Rattle.lists.specs.Lists.{count, keep, gather}
 use Rattle.lists.proofs.Stores.{kept_same, kept-count}
 use Rattle.rules.specs.Mesh.{first_met, firsts}
 use Rattle.faces.specs.Words.{links_in}
 use Rattle.levels.proofs.Starts.{start_of, met-word, met-room, met-more, starts-all}
-use borrow.Author.Rules.{rules}
 use native.Mathlib.Omega.{arith}
 use Rattle.levels.proofs.new_starts.Lts
 use Rattle.levels.proofs.new_starts.Reads
@@ -64,20 +60,20 @@ loop-s-preserved c = let a = c.args in
     let p = first_met (links_in w a.links a.sides) in
     let h : l.s < a.sides = omega arith in
     elim c.if-first_met.branch [
-    then-first_met came ↦ (
-    let t : p l.s ≡ true = sym (test c.before) ∙ came.if-first_met.true in (
-      omega arith,
-      (
-        rw came.words-is (simp length-set l.invariant.1.0),
-        (
-          came.k-is ∙ omega (arith, l.invariant.1.1.0, kept-count start_of 1 (λ _. refl) p w a.to a.sides l.s h t),
-          came.words-is ∙ rw came.in_fourth.ensures (met-more w a.links a.to a.sides l.s r.room.0 r.apart h l.words l.k l.invariant.1.1.1 l.invariant.1.1.0 t),
-        ),
-      ),
-    ))
-    | else-first_met came ↦ (
-    let e = kept_same start_of 1 (λ _. refl) p w a.to a.sides l.s h (sym (test c.before) ∙ came.if-first_met.false) in
-    (omega arith, (rw came.words-is l.invariant.1.0, rw e (came.k-is ∙ l.invariant.1.1.0, came.words-is ∙ l.invariant.1.1.1))))
+      | then-first_met came ↦ (
+          let t : p l.s ≡ true = sym (test c.before) ∙ came.if-first_met.true in (
+            omega arith,
+            (
+              rw came.words-is (simp length-set l.invariant.1.0),
+              (
+                came.k-is ∙ omega (arith, l.invariant.1.1.0, kept-count start_of 1 (λ _. refl) p w a.to a.sides l.s h t),
+                came.words-is ∙ rw came.in_fourth.ensures (met-more w a.links a.to a.sides l.s r.room.0 r.apart h l.words l.k l.invariant.1.1.1 l.invariant.1.1.0 t),
+              ),
+            ),
+          ))
+      | else-first_met came ↦ (
+          let e = kept_same start_of 1 (λ _. refl) p w a.to a.sides l.s h (sym (test c.before) ∙ came.if-first_met.false) in
+          (omega arith, (rw came.words-is l.invariant.1.0, rw e (came.k-is ∙ l.invariant.1.1.0, came.words-is ∙ l.invariant.1.1.1))))
     ]
 
 pub returns : goal.returns

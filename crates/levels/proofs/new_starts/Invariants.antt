@@ -1,16 +1,11 @@
-use Prim.Native.Nat.{◌-◌, ◌≤◌, ◌<◌}
-use mathlib.Core.Path.{◌≡◌, refl, sym, ◌∙◌}
-use mathlib.Core.Logic.{⊎_elim}
-use mathlib.Core.Bool.{true}
-use lib.ListN.{length, length-set}
+use Prim.Native.Nat.{◌-◌, ◌≤◌}
+use mathlib.Core.Path.{◌≡◌}
+use lib.ListN.{length}
 use lib.Seq.{sets}
 use Rattle.lists.specs.Lists.{count, keep, gather}
-use Rattle.lists.proofs.Stores.{kept_same, kept-count}
-use Rattle.rules.specs.Mesh.{first_met, firsts}
+use Rattle.rules.specs.Mesh.{first_met}
 use Rattle.faces.specs.Words.{links_in}
-use Rattle.levels.proofs.Starts.{start_of, met-word, met-room, met-more, starts-all}
-use borrow.Author.Rules.{rules}
-use native.Mathlib.Omega.{arith}
+use Rattle.levels.proofs.Starts.{start_of}
 use Rattle.levels.proofs.new_starts.Given as goal
 
 abbrev pub invariant-loop-s : goal.invariant-loop-s

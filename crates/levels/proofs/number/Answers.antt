@@ -1,14 +1,10 @@
-use Prim.Native.Nat.{◌-◌, ◌≤◌, ◌<◌}
+use Prim.Native.Nat.{◌≤◌, ◌<◌}
 use mathlib.Core.Path.{◌≡◌, refl, ◌∙◌}
-use mathlib.Core.List.{map}
-use lib.ListN.{length, length-set}
-use lib.Seq.{sets}
-use Rattle.lists.specs.Lists.{count, tally}
+use lib.ListN.{length-set}
 use Rattle.lists.proofs.Places.{tally-below}
-use Rattle.rules.specs.Mesh.{first_met, middle}
+use Rattle.rules.specs.Mesh.{first_met}
 use Rattle.faces.specs.Words.{links_in}
 use Rattle.levels.proofs.Numbers.{word-is, number_is, number_more, tally-more, all-met}
-use borrow.Author.Rules.{rules}
 use native.Mathlib.Omega.{arith}
 use Rattle.levels.proofs.number.Lts
 use Rattle.levels.proofs.number.Reads

@@ -1,15 +1,11 @@
-use Prim.Native.Nat.{◌-◌, ◌≤◌, ◌<◌}
-use mathlib.Core.Path.{◌≡◌, refl, ◌∙◌}
+use Prim.Native.Nat.{◌-◌, ◌≤◌}
+use mathlib.Core.Path.{◌≡◌}
 use mathlib.Core.List.{map}
-use lib.ListN.{length, length-set}
+use lib.ListN.{length}
 use lib.Seq.{sets}
 use Rattle.lists.specs.Lists.{count, tally}
-use Rattle.lists.proofs.Places.{tally-below}
 use Rattle.rules.specs.Mesh.{first_met, middle}
 use Rattle.faces.specs.Words.{links_in}
-use Rattle.levels.proofs.Numbers.{word-is, number_is, number_more, tally-more, all-met}
-use borrow.Author.Rules.{rules}
-use native.Mathlib.Omega.{arith}
 use Rattle.levels.proofs.number.Given as goal
 
 abbrev pub invariant-loop-s : goal.invariant-loop-s

@@ -1,13 +1,10 @@
-use Prim.Native.Nat.{◌+◌, ◌-◌, ◌≤◌, ◌<◌}
+use Prim.Native.Nat.{◌+◌, ◌<◌}
 use mathlib.Core.Path.{◌≡◌, refl, ◌∙◌}
-use mathlib.Core.List.{map}
-use lib.ListN.{length, get_or, take, length-set}
-use lib.Seq.{sets, take_all}
+use lib.ListN.{get_or, length-set}
+use lib.Seq.{take_all}
 use Rattle.lists.specs.Lists.{part}
 use Rattle.lists.proofs.Stores.{length_part}
-use Rattle.rules.specs.Mesh.{restart}
 use Rattle.levels.proofs.Starts.{start_word, start-more}
-use borrow.Author.Rules.{rules}
 use native.Mathlib.Omega.{arith}
 use Rattle.levels.proofs.old_starts.Lts
 use Rattle.levels.proofs.old_starts.Reads

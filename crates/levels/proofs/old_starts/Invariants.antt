@@ -1,14 +1,10 @@
-use Prim.Native.Nat.{◌+◌, ◌-◌, ◌≤◌, ◌<◌}
-use mathlib.Core.Path.{◌≡◌, refl, ◌∙◌}
+use Prim.Native.Nat.{◌-◌, ◌≤◌}
+use mathlib.Core.Path.{◌≡◌}
 use mathlib.Core.List.{map}
-use lib.ListN.{length, get_or, take, length-set}
-use lib.Seq.{sets, take_all}
+use lib.ListN.{length, take}
+use lib.Seq.{sets}
 use Rattle.lists.specs.Lists.{part}
-use Rattle.lists.proofs.Stores.{length_part}
 use Rattle.rules.specs.Mesh.{restart}
-use Rattle.levels.proofs.Starts.{start_word, start-more}
-use borrow.Author.Rules.{rules}
-use native.Mathlib.Omega.{arith}
 use Rattle.levels.proofs.old_starts.Given as goal
 
 abbrev pub invariant-loop-u : goal.invariant-loop-u

@@ -1,7 +1,6 @@
 use lib.ListN.{length-set}
 use Rattle.lists.proofs.Stores.{sets-three}
 use native.Mathlib.Omega.{arith}
-use borrow.Author.Rules.{rules}
 use Rattle.levels.proofs.put3.Goals as goal
 
 pub bounds-words-j-2 : goal.bounds-words-j-2

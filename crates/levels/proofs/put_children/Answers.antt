@@ -1,7 +1,6 @@
 use mathlib.Core.Path.{refl}
 use mathlib.Core.List.{[], ◌∷◌}
 use Rattle.levels.proofs.Links.{four-sets}
-use borrow.Author.Rules.{rules}
 use Rattle.levels.proofs.put_children.Goals as goal
 
 pub returns : goal.returns

@@ -3,7 +3,6 @@ use mathlib.Core.Path.{refl}
 use mathlib.Core.List.{[], ◌∷◌}
 use Rattle.levels.specs.Level.{first_half, second_half}
 use Rattle.levels.proofs.Links.{four-sets}
-use borrow.Author.Rules.{rules}
 use Rattle.levels.proofs.put_links.Goals as goal
 
 pub returns : goal.returns

@@ -86,11 +86,11 @@ new_starts-requires c = let a = c.args in
     let apart = apart-at a.words.now a.at a.to a.nf a.nv r in
     let e = length (firsts (links (part a.at (3 * a.nf) a.words.now))) in
     rw (is₄ c.before.before.before, linked₄ a.words.now a.at a.to a.nf a.nv r) (
-      record {
-        room = (simp length-sets (omega (arith, r.old)), simp length-sets (omega (arith, r.new)));
-        apart = apart (a.at + 3 * a.nf) (3 * a.nf) (a.to + 24 * a.nf + a.nv) e (omega arith) (omega arith) (omega arith) (omega arith);
-        small = omega (arith, r.small);
-      }
+    record {
+      room = (simp length-sets (omega (arith, r.old)), simp length-sets (omega (arith, r.new)));
+      apart = apart (a.at + 3 * a.nf) (3 * a.nf) (a.to + 24 * a.nf + a.nv) e (omega arith) (omega arith) (omega arith) (omega arith);
+      small = omega (arith, r.small);
+    }
     )
 
 pub returns : goal.returns

@@ -1,6 +1,5 @@
 use Rattle.rules.specs.Mesh.{onward, backward, restart}
 use Rattle.levels.proofs.Links.{across-word}
-use borrow.Author.Rules.{rules}
 use Rattle.levels.proofs.second_half.Goals as goal
 
 pub returns-else-w-eq0 : goal.returns-else-w-eq0

@@ -1,13 +1,8 @@
 use Rattle.rules.specs.Refusals.{range_refusal}
 use mathlib.Core.Bool.{not}
-use borrow.Author.Rules.{rules}
 use borrow.Author.Count.{below_more}
-use borrow.Author.Tests.{not-false}
 use native.Mathlib.Omega.{arith}
-use Prim.Native.Nat.{ℕ, ◌-◌, ◌≤◌, ◌<◌}
-use mathlib.Core.Path.{◌≡◌, sym, ap, ◌∙◌}
-use mathlib.Core.Bool.{true}
-use lib.ListN.{length, get_or}
+use mathlib.Core.Path.{sym, ap, ◌∙◌}
 use Rattle.limits.proofs.Search.{find-here, find-nowhere}
 use lib.Ieee.{nan}
 use Rattle.rules.specs.Position.{single}

@@ -1,16 +1,7 @@
-use mir.Syntax.{w32}
-use mir.ValLaws.{to_z-of_z}
-use Rattle.rules.specs.Refusals.{range_refusal}
-use mathlib.Core.Bool.{not}
-use borrow.Author.Rules.{rules}
-use borrow.Author.Count.{below_more}
-use borrow.Author.Tests.{not-false}
-use native.Mathlib.Omega.{arith}
 use Prim.Native.Nat.{ℕ, ◌-◌, ◌≤◌, ◌<◌}
-use mathlib.Core.Path.{◌≡◌, sym, ap, ◌∙◌}
+use mathlib.Core.Path.{◌≡◌}
 use mathlib.Core.Bool.{true}
 use lib.ListN.{length, get_or}
-use Rattle.limits.proofs.Search.{find-here, find-nowhere}
 use lib.IntN.{pos}
 use Rattle.whole.specs.Whole.{in_range}
 use Rattle.limits.proofs.whole_range.Given as goal

@@ -1,6 +1,4 @@
 use Rattle.looks.proofs.Found.{back_is, not_back}
-use Rattle.rules.specs.Mesh.{onward}
-use borrow.Author.Rules.{rules}
 use Rattle.looks.proofs.comes_back.Goals as goal
 
 pub returns-then-a-words : goal.returns-then-a-words

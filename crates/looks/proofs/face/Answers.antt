@@ -1,6 +1,5 @@
 use mathlib.Core.Path.{refl}
 use Rattle.looks.proofs.Found.{face-is}
-use borrow.Author.Rules.{rules}
 use Rattle.looks.proofs.face.Goals as goal
 
 pub returns : goal.returns

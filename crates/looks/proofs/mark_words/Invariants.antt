@@ -1,14 +1,8 @@
-use borrow.Author.Rules.{rules}
-use native.Mathlib.Omega.{arith}
-use Prim.Native.Nat.{ℕ, ◌-◌, ◌*◌, ◌≤◌}
-use mathlib.Core.Path.{subst}
-use mathlib.Core.List.{List}
-use lib.ListN.{length, get_or, take, length-set}
-use lib.Seq.{take_all}
+use Prim.Native.Nat.{◌-◌, ◌*◌, ◌≤◌}
+use lib.ListN.{length, take}
 use Rattle.lists.specs.Lists.{part}
 use Rattle.rules.specs.Mesh.{links}
 use Rattle.marks.specs.Marks.{Marking}
-use Rattle.looks.proofs.Marking.{Met, still, met-side, marked-one}
 use Rattle.looks.proofs.mark_words.Given as goal
 
 abbrev pub invariant-loop-i : goal.invariant-loop-i

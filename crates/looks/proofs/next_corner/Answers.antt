@@ -1,7 +1,6 @@
 use mathlib.Core.Path.{sym, ◌∙◌}
 use Rattle.looks.proofs.Corners.{next-face-below, next-on, next-off, next-none}
 use native.Mathlib.Omega.{arith}
-use borrow.Author.Rules.{rules}
 use Rattle.looks.proofs.next_corner.Goals as goal
 
 pub bare-requires : goal.bare-requires

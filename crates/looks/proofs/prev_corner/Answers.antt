@@ -1,7 +1,6 @@
 use mathlib.Core.Path.{sym, ◌∙◌}
 use Rattle.looks.proofs.Corners.{prev-face-below, prev-on, prev-off, prev-none}
 use native.Mathlib.Omega.{arith}
-use borrow.Author.Rules.{rules}
 use Rattle.looks.proofs.prev_corner.Goals as goal
 
 pub bare-requires : goal.bare-requires

@@ -1,4 +1,3 @@
-use borrow.Author.Rules.{rules}
 use Rattle.looks.proofs.spot_in.Goals as goal
 
 pub returns-in-First : goal.returns-in-First

@@ -1,9 +1,8 @@
-use borrow.Author.Rules.{rules}
 use native.Mathlib.Omega.{arith}
-use Prim.Native.Nat.{ℕ, ◌+◌, ◌-◌, ◌*◌, ◌≤◌, ◌<◌}
-use mathlib.Core.Path.{◌≡◌, ap, ◌∙◌, subst}
+use Prim.Native.Nat.{ℕ, ◌*◌}
+use mathlib.Core.Path.{subst}
 use mathlib.Core.List.{List}
-use lib.ListN.{length, take, length-set}
+use lib.ListN.{length-set}
 use lib.Seq.{take_all}
 use Rattle.faces.specs.Words.{links_in}
 use Rattle.marks.specs.Marks.{Marking}

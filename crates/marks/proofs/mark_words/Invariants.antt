@@ -1,13 +1,7 @@
-use borrow.Author.Rules.{rules}
-use native.Mathlib.Omega.{arith}
-use Prim.Native.Nat.{ℕ, ◌+◌, ◌-◌, ◌*◌, ◌≤◌, ◌<◌}
-use mathlib.Core.Path.{◌≡◌, ap, ◌∙◌, subst}
-use mathlib.Core.List.{List}
-use lib.ListN.{length, take, length-set}
-use lib.Seq.{take_all}
+use Prim.Native.Nat.{◌-◌, ◌*◌, ◌≤◌}
+use lib.ListN.{length, take}
 use Rattle.faces.specs.Words.{links_in}
 use Rattle.marks.specs.Marks.{Marking}
-use Rattle.marks.proofs.Marking.{word_below, word_some, marking_step}
 use Rattle.marks.proofs.mark_words.Given as goal
 
 abbrev pub invariant-loop-i : goal.invariant-loop-i

@@ -1,7 +1,6 @@
 use Prim.Native.Nat.{◌+◌, ◌*◌, ◌/◌, ◌%◌}
 use native.Mathlib.Omega.{arith}
 use lib.ListN.{length-set}
-use borrow.Author.Rules.{rules}
 use Rattle.marks.proofs.Marks.{sets-four}
 use Rattle.marks.proofs.put_marks.Goals as goal
 

@@ -1,11 +1,7 @@
-use Prim.Native.Nat.{ℕ, ◌+◌, ◌-◌, ◌*◌, ◌≤◌, ◌<◌}
 use mathlib.Core.Path.{◌≡◌, refl, ap, ◌∙◌}
 use native.Mathlib.Omega.{arith}
 use lib.ListN.{length}
-use lib.Seq.{sets, length-sets}
-use borrow.Author.Rules.{rules}
-use Rattle.lists.specs.Lists.{count, gather, part}
-use Rattle.marks.specs.Marks.{marks_from}
+use lib.Seq.{length-sets}
 use Rattle.marks.proofs.Marks.{marks-more}
 use Rattle.marks.proofs.refine_marks.Goals as goal
 

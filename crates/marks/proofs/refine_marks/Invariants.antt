@@ -1,12 +1,9 @@
-use Prim.Native.Nat.{ℕ, ◌+◌, ◌-◌, ◌*◌, ◌≤◌, ◌<◌}
-use mathlib.Core.Path.{◌≡◌, refl, ap, ◌∙◌}
-use native.Mathlib.Omega.{arith}
+use Prim.Native.Nat.{◌-◌, ◌≤◌}
+use mathlib.Core.Path.{◌≡◌}
 use lib.ListN.{length}
-use lib.Seq.{sets, length-sets}
-use borrow.Author.Rules.{rules}
+use lib.Seq.{sets}
 use Rattle.lists.specs.Lists.{count, gather, part}
 use Rattle.marks.specs.Marks.{marks_from}
-use Rattle.marks.proofs.Marks.{marks-more}
 use Rattle.marks.proofs.refine_marks.Given as goal
 
 abbrev pub invariant-loop-f : goal.invariant-loop-f

@@ -1,7 +1,6 @@
 use Prim.Native.Nat.{ℕ, ◌+◌, ◌/◌}
 use mathlib.Core.Path.{ap}
 use lib.ListN.{set}
-use borrow.Author.Rules.{rules}
 use Rattle.marks.proofs.set_mark.Goals as goal
 
 pub returns : goal.returns

@@ -1,6 +1,4 @@
-use native.Mathlib.Omega.{arith}
 use borrow.Author.Tests.{eq-eqb, ne_eqb}
-use borrow.Author.Rules.{rules}
 use Rattle.marks.proofs.with_bit.Goals as goal
 
 pub returns-then-x-eq1 : goal.returns-then-x-eq1

@@ -37,6 +37,6 @@ overflow_cast-result c = let h = able c.before.before.before.before.before.befor
 
 pub returns : goal.returns
 returns c = record {
-      answer = written _ _ _ _ (able c.before.before.before.before.before.before.before.before.before.before.before.before).has (long-is _ _ _ _ c.vertex_lengths.ensures.0 c.face_lengths.ensures.0) c.if-text-n.false;
-      text = both-put _ _ c.put_vertices-at.ensures c.put_faces.ensures;
-    }
+  answer = written _ _ _ _ (able c.before.before.before.before.before.before.before.before.before.before.before.before).has (long-is _ _ _ _ c.vertex_lengths.ensures.0 c.face_lengths.ensures.0) c.if-text-n.false;
+  text = both-put _ _ c.put_vertices-at.ensures c.put_faces.ensures;
+}

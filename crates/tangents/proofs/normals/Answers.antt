@@ -1,11 +1,7 @@
-use Prim.Native.Nat.{◌-◌, ◌≤◌}
 use mathlib.Core.Path.{◌≡◌, refl, ap, ◌∙◌}
 use native.Mathlib.Omega.{arith}
 use lib.ListN.{length}
-use lib.Seq.{sets, length-sets}
-use borrow.Author.Rules.{rules}
-use Rattle.lists.specs.Lists.{count, gather}
-use Rattle.tangents.specs.Normals.{normal_in}
+use lib.Seq.{length-sets}
 use Rattle.tangents.proofs.Rings.{normals-more}
 use Rattle.tangents.proofs.normals.Goals as goal
 

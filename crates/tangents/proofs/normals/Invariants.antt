@@ -1,12 +1,9 @@
 use Prim.Native.Nat.{◌-◌, ◌≤◌}
-use mathlib.Core.Path.{◌≡◌, refl, ap, ◌∙◌}
-use native.Mathlib.Omega.{arith}
+use mathlib.Core.Path.{◌≡◌}
 use lib.ListN.{length}
-use lib.Seq.{sets, length-sets}
-use borrow.Author.Rules.{rules}
+use lib.Seq.{sets}
 use Rattle.lists.specs.Lists.{count, gather}
 use Rattle.tangents.specs.Normals.{normal_in}
-use Rattle.tangents.proofs.Rings.{normals-more}
 use Rattle.tangents.proofs.normals.Given as goal
 
 abbrev pub invariant-loop-v : goal.invariant-loop-v

@@ -7,7 +7,6 @@ use Rattle.rules.specs.Tangents.{rim_tangent}
 use Rattle.weights.specs.Weights.{nowhere}
 use Rattle.weights.proofs.Floats.{two, weighs}
 use Rattle.tangents.proofs.Sums.{rim-two, rim-three, four_are}
-use borrow.Author.Rules.{rules}
 use Rattle.tangents.proofs.rim_tangent.Goals as goal
 
 pub returns-then-n-eq2 : goal.returns-then-n-eq2

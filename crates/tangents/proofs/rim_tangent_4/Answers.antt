@@ -1,7 +1,6 @@
 use mathlib.Core.Path.{ap}
 use lib.Ieee.{neg}
 use Rattle.weights.proofs.Floats.{one, two, adds, weighs}
-use borrow.Author.Rules.{rules}
 use Rattle.tangents.proofs.rim_tangent_4.Goals as goal
 
 pub returns : goal.returns

@@ -1,15 +1,7 @@
-use Rattle.vectors.specs.declared.Vec3.{Vec3}
-use Rattle.vectors.specs.Vectors.{negated, scaled}
-use Prim.Native.Nat.{ℕ, ◌-◌, ◌≤◌}
-use mathlib.Core.Path.{◌≡◌, refl, sym, ap, ap₂, ◌∙◌}
-use native.Mathlib.Omega.{arith}
-use lib.ListN.{get_or}
-use borrow.Author.Rules.{rules}
+use Prim.Native.Nat.{◌-◌, ◌≤◌}
+use mathlib.Core.Path.{◌≡◌}
 use Rattle.lists.specs.Lists.{part}
 use Rattle.rules.specs.Tangents.{rim_weight, weighted}
-use Rattle.weights.specs.Weights.{nowhere}
-use Rattle.weights.proofs.Floats.{adds}
-use Rattle.tangents.proofs.Sums.{rim-next, rim-wide}
 use Rattle.tangents.proofs.rim_tangent_5.Given as goal
 
 abbrev pub invariant-loop-k : goal.invariant-loop-k

@@ -4,7 +4,6 @@ use Rattle.vectors.specs.declared.Vec3.{Vec3}
 use Rattle.weights.specs.Weights.{nowhere}
 use Rattle.tangents.specs.declared.Tangents.{Tangents}
 use Rattle.tangents.proofs.Sums.{rim-ends}
-use borrow.Author.Rules.{rules}
 use Rattle.tangents.proofs.rim_tangents.Goals as goal
 
 pub returns : goal.returns

@@ -1,4 +1,3 @@
-use borrow.Author.Rules.{rules}
 use Rattle.weights.proofs.Floats.{two}
 use Rattle.tangents.proofs.rim_weight.Goals as goal
 

@@ -2,10 +2,9 @@ use mathlib.Core.Path.{ap, ap₂, ◌∙◌}
 use mathlib.Core.List.{List}
 use lib.ListN.{length, take}
 use Rattle.vectors.specs.declared.Vec3.{Vec3}
-use Rattle.rules.specs.Tangents.{point, rim_tangents}
+use Rattle.rules.specs.Tangents.{rim_tangents}
 use Rattle.tangents.specs.Normals.{both}
 use Rattle.tangents.proofs.Rings.{points-are}
-use borrow.Author.Rules.{rules}
 use Rattle.tangents.proofs.tangents_at.Goals as goal
 
 pub rim_tangents-requires : goal.rim_tangents-requires

@@ -1,4 +1,3 @@
-use borrow.Author.Rules.{rules}
 use borrow.Author.Tests.{le-leb, lt-leb}
 use Rattle.turns.specs.Turns.{sine}
 use Rattle.turns.proofs.sine.Goals as goal

@@ -1,6 +1,5 @@
 use mathlib.Core.Path.{sym, ap, ◌∙◌}
 use borrow.Author.Tests.{ne_eqb}
-use borrow.Author.Rules.{rules}
 use Rattle.rules.specs.Position.{beta}
 use Rattle.weights.proofs.Floats.{three, eight, three-sixteenths}
 use Rattle.weights.proofs.beta.Goals as goal

@@ -1,4 +1,3 @@
-use borrow.Author.Rules.{rules}
 use Rattle.weights.proofs.Floats.{three-eighths, eighth, weighs, adds}
 use Rattle.weights.proofs.edge_inner.Goals as goal
 

@@ -1,4 +1,3 @@
-use borrow.Author.Rules.{rules}
 use Rattle.weights.proofs.Floats.{half, weighs, adds}
 use Rattle.weights.proofs.edge_rim.Goals as goal
 

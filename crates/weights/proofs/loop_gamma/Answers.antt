@@ -1,4 +1,3 @@
-use borrow.Author.Rules.{rules}
 use Rattle.weights.proofs.Floats.{one, three, eight}
 use Rattle.weights.proofs.loop_gamma.Goals as goal
 

@@ -1,7 +1,6 @@
 use mathlib.Core.Path.{ap, ◌∙◌}
 use lib.ListN.{set}
 use Rattle.whole.proofs.Bits.{read-32}
-use borrow.Author.Rules.{rules}
 use Rattle.whole.proofs.put.Goals as goal
 
 pub returns : goal.returns

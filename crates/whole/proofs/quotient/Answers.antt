@@ -1,5 +1,4 @@
 use mathlib.Core.Path.{refl}
-use borrow.Author.Rules.{rules}
 use Rattle.whole.proofs.quotient.Goals as goal
 
 pub returns-then-d-eq24 : goal.returns-then-d-eq24

@@ -1,7 +1,6 @@
 use mathlib.Core.Path.{ap, ◌∙◌}
 use Rattle.whole.specs.Whole.{raise}
 use Rattle.whole.proofs.Bits.{read-32}
-use borrow.Author.Rules.{rules}
 use Rattle.whole.proofs.raised_at.Goals as goal
 
 pub returns : goal.returns

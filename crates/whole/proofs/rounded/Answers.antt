@@ -2,7 +2,6 @@ use mathlib.Core.Path.{sym, ap, ◌∙◌}
 use Prim.Native.Nat.{ℕ, ◌+◌, ◌-◌, ◌*◌, ◌/◌, ◌≤◌, ◌<◌}
 use native.Mathlib.Omega.{arith}
 use native.Mathlib.Nat.{div-lt_iff_lt-mul}
-use borrow.Author.Rules.{rules}
 use Rattle.whole.specs.Whole.{reach, under, raise}
 use Rattle.whole.proofs.Half.{quotient-nearest}
 use Rattle.whole.proofs.Sums.{raised-lower, raise-is}

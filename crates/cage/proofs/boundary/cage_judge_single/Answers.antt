@@ -1,6 +1,5 @@
 use mathlib.Core.Path.{ap, ◌∙◌}
 use Rattle.rules.specs.Answers.{answer}
-use borrow.Author.Rules.{rules}
 use Rattle.cage.proofs.boundary.cage_judge_single.Goals as goal
 
 pub returns : goal.returns

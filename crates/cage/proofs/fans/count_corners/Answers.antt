@@ -1,10 +1,8 @@
-use borrow.Author.Rules.{rules}
 use native.Mathlib.Omega.{arith}
-use Prim.Native.Nat.{◌-◌, ◌≤◌, ◌<◌}
+use Prim.Native.Nat.{◌<◌}
 use mathlib.Core.Path.{◌≡◌, refl}
 use lib.ListN.{length, length-set}
 use Rattle.rules.specs.Mesh.{corner}
-use Rattle.cage.specs.Fans.{Tallied}
 use Rattle.cage.proofs.Rounds.{counted-few, counted-more}
 use Rattle.cage.proofs.fans.count_corners.Lts
 use Rattle.cage.proofs.fans.count_corners.Reads

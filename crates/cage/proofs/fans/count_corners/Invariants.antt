@@ -1,11 +1,7 @@
-use borrow.Author.Rules.{rules}
-use native.Mathlib.Omega.{arith}
-use Prim.Native.Nat.{◌-◌, ◌≤◌, ◌<◌}
-use mathlib.Core.Path.{◌≡◌, refl}
-use lib.ListN.{length, length-set}
-use Rattle.rules.specs.Mesh.{corner}
+use Prim.Native.Nat.{◌-◌, ◌≤◌}
+use mathlib.Core.Path.{◌≡◌}
+use lib.ListN.{length}
 use Rattle.cage.specs.Fans.{Tallied}
-use Rattle.cage.proofs.Rounds.{counted-few, counted-more}
 use Rattle.cage.proofs.fans.count_corners.Given as goal
 
 abbrev pub invariant-loop-s : goal.invariant-loop-s

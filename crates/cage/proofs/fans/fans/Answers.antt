@@ -6,7 +6,6 @@ use Rattle.rules.specs.Refusals.{check, fan_refusal}
 use Rattle.cage.specs.Fans.{turn_refusal}
 use Rattle.limits.proofs.Search.{or-stops, or-goes}
 use Rattle.cage.proofs.Rounds.{used-of}
-use borrow.Author.Rules.{rules}
 use Rattle.cage.proofs.fans.fans.Goals as goal
 
 pub turns-requires : goal.turns-requires

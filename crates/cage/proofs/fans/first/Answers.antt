@@ -1,5 +1,4 @@
 use borrow.Author.Tests.{eq-eqb, ne_eqb}
-use borrow.Author.Rules.{rules}
 use Rattle.cage.proofs.fans.first.Goals as goal
 
 pub returns-then-seen-v : goal.returns-then-seen-v

@@ -1,4 +1,3 @@
-use borrow.Author.Rules.{rules}
 use Rattle.cage.proofs.fans.short.Goals as goal
 
 pub returns-in-Inner : goal.returns-in-Inner

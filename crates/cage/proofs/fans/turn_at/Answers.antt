@@ -10,7 +10,6 @@ use Rattle.cage.specs.Chains.{leaves, before}
 use Rattle.cage.proofs.Chains.{last-le}
 use Rattle.cage.proofs.Across.{word-le}
 use Rattle.cage.proofs.Rounds.{links-in, corner-at}
-use borrow.Author.Rules.{rules}
 use Rattle.cage.proofs.fans.turn_at.Goals as goal
 
 pub turn_round-requires : goal.turn_round-requires

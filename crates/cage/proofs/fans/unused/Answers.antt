@@ -1,9 +1,8 @@
-use borrow.Author.Rules.{rules}
 use borrow.Author.Count.{below_more}
 use native.Mathlib.Omega.{arith}
-use Prim.Native.Nat.{ℕ, ◌-◌, ◌≤◌, ◌<◌}
+use Prim.Native.Nat.{ℕ}
 use mathlib.Core.Path.{◌≡◌, sym, ap, ◌∙◌}
-use mathlib.Core.Bool.{false, not}
+use mathlib.Core.Bool.{not}
 use lib.ListN.{get_or}
 use lib.Dec.{eqb}
 use borrow.Author.Tests.{eq-eqb, ne_eqb}

@@ -1,15 +1,8 @@
-use borrow.Author.Rules.{rules}
-use borrow.Author.Count.{below_more}
-use native.Mathlib.Omega.{arith}
 use Prim.Native.Nat.{ℕ, ◌-◌, ◌≤◌, ◌<◌}
-use mathlib.Core.Path.{◌≡◌, sym, ap, ◌∙◌}
+use mathlib.Core.Path.{◌≡◌}
 use mathlib.Core.Bool.{false, not}
-use lib.ListN.{get_or}
 use lib.Dec.{eqb}
-use borrow.Author.Tests.{eq-eqb, ne_eqb}
 use Rattle.lists.specs.Lists.{find, found}
-use Rattle.limits.proofs.Search.{lowest-here, lowest-nowhere}
-use Rattle.cage.proofs.Rounds.{unused-is}
 use Rattle.cage.proofs.fans.unused.Given as goal
 
 abbrev pub invariant-loop-u : goal.invariant-loop-u

@@ -1,6 +1,5 @@
 use mathlib.Core.Path.{sym}
 use lib.Dec.{leb-suc-suc}
-use borrow.Author.Rules.{rules}
 use Rattle.turns.specs.Turns.{most_valence}
 use Rattle.cage.proofs.fans.wide.Goals as goal
 

@@ -1,9 +1,7 @@
-use borrow.Author.Rules.{rules}
 use borrow.Author.Count.{below_more}
 use native.Mathlib.Omega.{arith}
-use Prim.Native.Nat.{ℕ, ◌-◌, ◌*◌, ◌/◌, ◌≤◌, ◌<◌}
+use Prim.Native.Nat.{◌*◌, ◌/◌, ◌<◌}
 use mathlib.Core.Path.{◌≡◌, sym, ap, ◌∙◌}
-use mathlib.Core.Bool.{false}
 use mathlib.Core.Option.{none}
 use lib.ListN.{length, get_or}
 use Rattle.lists.specs.Lists.{lowest, found}

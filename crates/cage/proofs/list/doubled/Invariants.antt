@@ -1,18 +1,9 @@
-use borrow.Author.Rules.{rules}
-use borrow.Author.Count.{below_more}
-use native.Mathlib.Omega.{arith}
-use Prim.Native.Nat.{ℕ, ◌-◌, ◌*◌, ◌/◌, ◌≤◌, ◌<◌}
-use mathlib.Core.Path.{◌≡◌, sym, ap, ◌∙◌}
+use Prim.Native.Nat.{ℕ, ◌-◌, ◌/◌, ◌≤◌, ◌<◌}
+use mathlib.Core.Path.{◌≡◌}
 use mathlib.Core.Bool.{false}
-use mathlib.Core.Option.{none}
-use lib.ListN.{length, get_or}
+use lib.ListN.{length}
 use Rattle.lists.specs.Lists.{lowest, found}
-use Rattle.rules.specs.Mesh.{links}
 use Rattle.rules.specs.Refusals.{same_set}
-use Rattle.faces.specs.Words.{link_of}
-use Rattle.cage.specs.Chains.{folds_back}
-use Rattle.limits.proofs.Search.{lowest-here, lowest-nowhere}
-use Rattle.cage.proofs.Across.{link-coded, word-at, word-le, folds_is}
 use Rattle.cage.proofs.list.doubled.Given as goal
 
 abbrev pub invariant-loop-f : goal.invariant-loop-f

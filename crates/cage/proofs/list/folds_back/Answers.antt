@@ -5,7 +5,6 @@ use lib.Dec.{eqb}
 use Rattle.rules.specs.Mesh.{corner}
 use Rattle.faces.proofs.Links.{link-word}
 use Rattle.cage.specs.Chains.{folds_back}
-use borrow.Author.Rules.{rules}
 use Rattle.cage.proofs.list.folds_back.Goals as goal
 
 pub returns-then-t-f : goal.returns-then-t-f

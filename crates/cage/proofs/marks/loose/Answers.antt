@@ -3,7 +3,6 @@ use mathlib.Core.Path.{◌∙◌}
 use lib.ListN.{length}
 use Prim.Native.Nat.{◌<◌}
 use Rattle.cage.proofs.SharpList.{far, near, zero-at}
-use borrow.Author.Rules.{rules}
 use Rattle.cage.proofs.marks.loose.Goals as goal
 
 pub returns-then-k-indices : goal.returns-then-k-indices

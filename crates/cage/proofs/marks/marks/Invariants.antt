@@ -1,14 +1,9 @@
-use borrow.Author.Rules.{rules}
-use borrow.Author.Count.{below_more}
-use native.Mathlib.Omega.{arith}
 use Prim.Native.Nat.{ℕ, ◌-◌, ◌≤◌, ◌<◌}
-use mathlib.Core.Path.{◌≡◌, sym, ap, ◌∙◌}
+use mathlib.Core.Path.{◌≡◌}
 use mathlib.Core.Bool.{false}
 use lib.ListN.{length, get_or}
 use Rattle.rules.specs.Mesh.{links}
 use Rattle.rules.specs.Sharp.{unlinked}
-use Rattle.limits.proofs.Search.{at}
-use Rattle.cage.proofs.SharpList.{told_here, told-nowhere}
 use Rattle.cage.proofs.marks.marks.Given as goal
 
 abbrev pub invariant-loop-i : goal.invariant-loop-i

@@ -1,10 +1,8 @@
-use borrow.Author.Rules.{rules}
 use native.Mathlib.Omega.{arith}
-use Prim.Native.Nat.{◌-◌, ◌≤◌, ◌<◌}
+use Prim.Native.Nat.{◌<◌}
 use mathlib.Core.Path.{◌≡◌, refl}
 use lib.ListN.{length, length-set, get_or}
 use Rattle.rules.specs.Mesh.{corner}
-use Rattle.cage.specs.Chains.{Heads, Chained}
 use Rattle.cage.proofs.Chains.{heads-more, chained_more}
 use Rattle.cage.proofs.sides.chain.Lts
 use Rattle.cage.proofs.sides.chain.Reads

@@ -1,11 +1,7 @@
-use borrow.Author.Rules.{rules}
-use native.Mathlib.Omega.{arith}
-use Prim.Native.Nat.{◌-◌, ◌≤◌, ◌<◌}
-use mathlib.Core.Path.{◌≡◌, refl}
-use lib.ListN.{length, length-set, get_or}
-use Rattle.rules.specs.Mesh.{corner}
+use Prim.Native.Nat.{◌-◌, ◌≤◌}
+use mathlib.Core.Path.{◌≡◌}
+use lib.ListN.{length}
 use Rattle.cage.specs.Chains.{Heads, Chained}
-use Rattle.cage.proofs.Chains.{heads-more, chained_more}
 use Rattle.cage.proofs.sides.chain.Given as goal
 
 abbrev pub invariant-loop-s : goal.invariant-loop-s

@@ -1,6 +1,5 @@
 use mathlib.Core.Path.{ap}
 use Rattle.rules.specs.Mesh.{corner}
-use borrow.Author.Rules.{rules}
 use Rattle.cage.proofs.sides.end_of.Goals as goal
 
 pub returns : goal.returns

@@ -1,6 +1,5 @@
 use mathlib.Core.Path.{sym}
 use native.Mathlib.Omega.{arith}
-use borrow.Author.Rules.{rules}
 use Rattle.cage.proofs.Marking.{fresh-none, fresh-own, fresh-stale}
 use Rattle.cage.proofs.sides.fresh.Goals as goal
 

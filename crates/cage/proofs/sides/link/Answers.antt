@@ -1,4 +1,3 @@
-use borrow.Author.Rules.{rules}
 use Rattle.cage.proofs.Marking.{marked-none}
 use Rattle.cage.proofs.sides.link.Goals as goal
 

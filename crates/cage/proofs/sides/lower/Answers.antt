@@ -1,6 +1,5 @@
 use mathlib.Core.Path.{sym}
 use native.Mathlib.Omega.{arith}
-use borrow.Author.Rules.{rules}
 use Rattle.cage.proofs.Marking.{lower-is, lower_late, lower-early}
 use Rattle.cage.proofs.sides.lower.Goals as goal
 

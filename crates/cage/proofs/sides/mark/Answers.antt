@@ -1,10 +1,9 @@
-use borrow.Author.Rules.{rules}
 use native.Mathlib.Omega.{arith}
-use Prim.Native.Nat.{ℕ, ◌-◌, ◌≤◌, ◌<◌}
+use Prim.Native.Nat.{ℕ, ◌-◌, ◌<◌}
 use mathlib.Core.Path.{◌≡◌, refl, sym, ap, ◌∙◌}
 use lib.ListN.{length, length-set, get_or}
 use Rattle.rules.specs.Mesh.{onward, corner}
-use Rattle.cage.specs.Chains.{last_below, leaves, fresh_mark, lower_of, Marked, Met, Repeat, Least}
+use Rattle.cage.specs.Chains.{last_below, leaves, fresh_mark, lower_of}
 use Rattle.cage.proofs.Chains.{last-le}
 use Rattle.cage.proofs.Marking.{third-on, chain-le, chain-leaves, lower-le, met-none, least-none, marked_more, met-more, least_more, repeat-more}
 use Rattle.cage.proofs.sides.mark.Lts

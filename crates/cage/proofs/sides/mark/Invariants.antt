@@ -1,12 +1,8 @@
-use borrow.Author.Rules.{rules}
-use native.Mathlib.Omega.{arith}
-use Prim.Native.Nat.{ℕ, ◌-◌, ◌≤◌, ◌<◌}
-use mathlib.Core.Path.{◌≡◌, refl, sym, ap, ◌∙◌}
-use lib.ListN.{length, length-set, get_or}
-use Rattle.rules.specs.Mesh.{onward, corner}
-use Rattle.cage.specs.Chains.{last_below, leaves, fresh_mark, lower_of, Marked, Met, Repeat, Least}
-use Rattle.cage.proofs.Chains.{last-le}
-use Rattle.cage.proofs.Marking.{third-on, chain-le, chain-leaves, lower-le, met-none, least-none, marked_more, met-more, least_more, repeat-more}
+use Prim.Native.Nat.{◌-◌, ◌≤◌, ◌<◌}
+use mathlib.Core.Path.{◌≡◌}
+use lib.ListN.{length}
+use Rattle.rules.specs.Mesh.{corner}
+use Rattle.cage.specs.Chains.{Marked, Met, Repeat, Least}
 use Rattle.cage.proofs.sides.mark.Given as goal
 
 abbrev pub invariant-loop-h : goal.invariant-loop-h

@@ -1,12 +1,11 @@
-use borrow.Author.Rules.{rules}
 use native.Mathlib.Omega.{arith}
-use Prim.Native.Nat.{ℕ, ◌+◌, ◌-◌, ◌≤◌, ◌<◌}
+use Prim.Native.Nat.{ℕ, ◌+◌, ◌-◌, ◌<◌}
 use mathlib.Core.Path.{◌≡◌, ap, ◌∙◌}
 use mathlib.Core.Option.{none}
 use lib.ListN.{length, get_or}
 use Rattle.rules.specs.Mesh.{backward, corner, links}
 use Rattle.faces.specs.Words.{coded}
-use Rattle.cage.specs.Chains.{last_below, leaves, fresh_mark, Once, Coming}
+use Rattle.cage.specs.Chains.{last_below, leaves, fresh_mark, Once}
 use Rattle.cage.proofs.Chains.{last-le}
 use Rattle.cage.proofs.Marking.{third_back, chain-le, chain-leaves, coming-none, coming-more, fresh-link}
 use Rattle.cage.proofs.sides.put_coming.Lts

@@ -1,16 +1,10 @@
-use borrow.Author.Rules.{rules}
-use native.Mathlib.Omega.{arith}
-use Prim.Native.Nat.{ℕ, ◌-◌, ◌≤◌, ◌<◌}
-use mathlib.Core.Path.{◌≡◌, refl, sym, ap, ◌∙◌}
+use Prim.Native.Nat.{◌-◌, ◌≤◌}
+use mathlib.Core.Path.{◌≡◌}
 use mathlib.Core.List.{map}
-use lib.ListN.{length, length-set, get_or, take}
-use lib.Seq.{sets, take-length}
-use Rattle.lists.proofs.Stores.{copy_at}
-use Rattle.rules.specs.Mesh.{onward, corner, links}
+use lib.ListN.{length, take}
+use lib.Seq.{sets}
+use Rattle.rules.specs.Mesh.{links}
 use Rattle.faces.specs.Words.{coded}
-use Rattle.cage.specs.Chains.{last_below, leaves}
-use Rattle.cage.proofs.Chains.{last-le, runs-from}
-use Rattle.cage.proofs.Across.{link-word, length-words, coded-at}
 use Rattle.cage.proofs.sides.put_links.Given as goal
 
 abbrev pub invariant-loop-s : goal.invariant-loop-s

@@ -1,13 +1,8 @@
-use borrow.Author.Rules.{rules}
-use native.Mathlib.Omega.{arith}
-use Prim.Native.Nat.{ℕ, ◌-◌, ◌≤◌, ◌<◌}
-use mathlib.Core.Path.{◌≡◌, refl, sym, ap, ◌∙◌}
+use Prim.Native.Nat.{◌-◌, ◌≤◌}
+use mathlib.Core.Path.{◌≡◌}
 use mathlib.Core.List.{map}
-use lib.ListN.{length, length-set, get_or, take}
-use lib.ListN.{length-map}
-use lib.Seq.{sets, take-length, length-take-le, get_or-take}
-use Rattle.lists.proofs.Places.{get_d_map}
-use Rattle.lists.proofs.Stores.{copy_at}
+use lib.ListN.{length, take}
+use lib.Seq.{sets}
 use Rattle.cage.specs.Chains.{before}
 use Rattle.cage.proofs.sides.put_starts.Given as goal
 

@@ -1,6 +1,5 @@
 use mathlib.Core.Path.{◌≡◌}
 use lib.ListN.{length}
-use borrow.Author.Rules.{rules}
 use Rattle.cage.proofs.sides.put_vertex.Goals as goal
 
 pub mark-r-requires : goal.mark-r-requires

@@ -1,12 +1,10 @@
-use borrow.Author.Rules.{rules}
 use native.Mathlib.Omega.{arith}
-use Prim.Native.Nat.{◌-◌, ◌≤◌, ◌<◌}
+use Prim.Native.Nat.{◌<◌}
 use mathlib.Core.Path.{◌≡◌, refl, ◌∙◌}
-use mathlib.Core.Logic.{⊎_elim}
 use lib.ListN.{length}
 use Rattle.rules.specs.Mesh.{corner}
-use Rattle.cage.specs.Chains.{last_below, leaves, Marked, Repeat}
-use Rattle.cage.proofs.Marking.{Joined, Cleared, joined-none, cleared-none, repeat-none, joined-more, cleared_more, joined-again, cleared-again, joined-all, cleared-all}
+use Rattle.cage.specs.Chains.{last_below, leaves}
+use Rattle.cage.proofs.Marking.{joined-none, cleared-none, repeat-none, joined-more, cleared_more, joined-again, cleared-again, joined-all, cleared-all}
 use Rattle.cage.proofs.sides.put_vertices.Lts
 use Rattle.cage.proofs.sides.put_vertices.Reads
 use Rattle.cage.proofs.sides.put_vertices.Tie
@@ -73,27 +71,27 @@ loop-s-preserved c = let a = c.args in
     let t = c.loop-s-test.true in
     let v = l.invariant in
     elim c.if-nexts-s-eq0.branch [
-    then-nexts-s-eq0 came ↦ (
-      let k = came.put_vertex-low in
-    let e = k.ensures.low in (
-      omega arith,
-      rw came.marks-is (k.auto.marks ∙ v.1),
-      rw came.marks-is k.ensures.marks,
-      rw came.low-is e.1,
-      rw came.low-is (cleared_more fs l.s l.low k.result e.0 v.4 e.2),
-      joined-more fs a.at l.s a.words.now l.words c.if-nexts-s-eq0.words v.5 (rw came.words-is k.ensures.words),
-    )
-    )
-    | else-nexts-s-eq0 came ↦ (
-      let m : 0 < last_below (leaves fs (corner fs l.s)) l.s = omega (arith, c.requires.chains.1.next l.s t, came.if-nexts-s-eq0.false) in (
-      omega arith,
-      rw came.marks-is v.1,
-      rw came.marks-is v.2,
-      rw came.low-is v.3,
-      rw came.low-is (cleared-again fs l.s m l.low v.4),
-      rw came.words-is (joined-again fs l.s m a.at a.words.now l.words v.5),
-    )
-    )
+      | then-nexts-s-eq0 came ↦ (
+          let k = came.put_vertex-low in
+          let e = k.ensures.low in (
+            omega arith,
+            rw came.marks-is (k.auto.marks ∙ v.1),
+            rw came.marks-is k.ensures.marks,
+            rw came.low-is e.1,
+            rw came.low-is (cleared_more fs l.s l.low k.result e.0 v.4 e.2),
+            joined-more fs a.at l.s a.words.now l.words c.if-nexts-s-eq0.words v.5 (rw came.words-is k.ensures.words),
+          )
+          )
+      | else-nexts-s-eq0 came ↦ (
+          let m : 0 < last_below (leaves fs (corner fs l.s)) l.s = omega (arith, c.requires.chains.1.next l.s t, came.if-nexts-s-eq0.false) in (
+            omega arith,
+            rw came.marks-is v.1,
+            rw came.marks-is v.2,
+            rw came.low-is v.3,
+            rw came.low-is (cleared-again fs l.s m l.low v.4),
+            rw came.words-is (joined-again fs l.s m a.at a.words.now l.words v.5),
+          )
+          )
     ]
 
 pub shape_of-marks : goal.shape_of-marks

@@ -1,12 +1,8 @@
-use borrow.Author.Rules.{rules}
-use native.Mathlib.Omega.{arith}
-use Prim.Native.Nat.{◌-◌, ◌≤◌, ◌<◌}
-use mathlib.Core.Path.{◌≡◌, refl, ◌∙◌}
-use mathlib.Core.Logic.{⊎_elim}
+use Prim.Native.Nat.{◌-◌, ◌≤◌}
+use mathlib.Core.Path.{◌≡◌}
 use lib.ListN.{length}
-use Rattle.rules.specs.Mesh.{corner}
-use Rattle.cage.specs.Chains.{last_below, leaves, Marked, Repeat}
-use Rattle.cage.proofs.Marking.{Joined, Cleared, joined-none, cleared-none, repeat-none, joined-more, cleared_more, joined-again, cleared-again, joined-all, cleared-all}
+use Rattle.cage.specs.Chains.{Marked, Repeat}
+use Rattle.cage.proofs.Marking.{Joined, Cleared}
 use Rattle.cage.proofs.sides.put_vertices.Given as goal
 
 abbrev pub invariant-loop-s : goal.invariant-loop-s

@@ -1,18 +1,15 @@
-use borrow.Author.Rules.{rules}
-use Prim.Native.Nat.{◌+◌, ◌-◌, ◌*◌, ◌≤◌, ◌<◌}
+use Prim.Native.Nat.{◌*◌, ◌<◌}
 use mathlib.Core.Path.{◌≡◌, refl, sym, ap, ◌∙◌}
-use mathlib.Core.Logic.{⊎_elim}
 use mathlib.Core.Bool.{true}
 use native.Mathlib.Omega.{arith}
 use lib.ListN.{length}
-use lib.Seq.{sets, length-sets}
-use Rattle.lists.specs.Lists.{count, keep, gather, part}
+use lib.Seq.{length-sets}
+use Rattle.lists.specs.Lists.{part}
 use Rattle.rules.specs.Mesh.{links, first_met}
 use Rattle.rules.specs.Position.{whole}
 use Rattle.weights.specs.Lent.{lowered}
 use Rattle.levels.specs.Moves.{edges_in}
 use Rattle.levels.proofs.Moves.{sides-long, room_of_lem, test-is}
-use Rattle.creases.specs.Moves.{sharp_edge_at}
 use Rattle.creases.proofs.Moves.{edge-room, edge_kept, edge_same, edge_count, edge_more, edges-all}
 use Rattle.creases.proofs.points.edge_points.Lts
 use Rattle.creases.proofs.points.edge_points.Reads
@@ -131,15 +128,15 @@ loop-s-preserved c = let a = c.args in
     let l = c.loop-s in
     let h : l.s < 3 * a.nf = omega arith in
     elim c.if-first_met.branch [
-    then-first_met came ↦ (
-      let t : first_met (links (part a.at (3 * a.nf) a.words.now)) l.s ≡ true = sym (test c.before.before) ∙ came.if-first_met.true in
-    let e = edge_more whole a.words.now a.at a.marks a.nf a.nv a.work.now a.from a.to r.room (sides-long a.words.now a.at a.nf a.nv r.mesh.movable) l.s h l.work l.invariant.1.1.1 c.if-first_met.work (lowered came.edge_point-p.result) l.k t l.invariant.1.1.0 (came.work-is ∙ came.put.ensures) came.edge_point-p.ensures.point in
-    (omega arith, (ap length e ∙ simp length-sets, (came.k-is ∙ omega (arith, l.invariant.1.1.0, edge_count whole a.words.now a.at a.marks a.nf a.nv a.work.now a.from a.to r.room (sides-long a.words.now a.at a.nf a.nv r.mesh.movable) l.s h t), e)))
-    )
-    | else-first_met came ↦ (
-      let e = edge_same whole a.words.now a.at a.marks a.nf a.nv a.work.now a.from a.to r.room (sides-long a.words.now a.at a.nf a.nv r.mesh.movable) l.s h (sym (test c.before.before) ∙ came.if-first_met.false) in
-    (omega arith, (rw came.work-is l.invariant.1.0, rw e (came.k-is ∙ l.invariant.1.1.0, came.work-is ∙ l.invariant.1.1.1)))
-    )
+      | then-first_met came ↦ (
+          let t : first_met (links (part a.at (3 * a.nf) a.words.now)) l.s ≡ true = sym (test c.before.before) ∙ came.if-first_met.true in
+          let e = edge_more whole a.words.now a.at a.marks a.nf a.nv a.work.now a.from a.to r.room (sides-long a.words.now a.at a.nf a.nv r.mesh.movable) l.s h l.work l.invariant.1.1.1 c.if-first_met.work (lowered came.edge_point-p.result) l.k t l.invariant.1.1.0 (came.work-is ∙ came.put.ensures) came.edge_point-p.ensures.point in
+          (omega arith, (ap length e ∙ simp length-sets, (came.k-is ∙ omega (arith, l.invariant.1.1.0, edge_count whole a.words.now a.at a.marks a.nf a.nv a.work.now a.from a.to r.room (sides-long a.words.now a.at a.nf a.nv r.mesh.movable) l.s h t), e)))
+          )
+      | else-first_met came ↦ (
+          let e = edge_same whole a.words.now a.at a.marks a.nf a.nv a.work.now a.from a.to r.room (sides-long a.words.now a.at a.nf a.nv r.mesh.movable) l.s h (sym (test c.before.before) ∙ came.if-first_met.false) in
+          (omega arith, (rw came.work-is l.invariant.1.0, rw e (came.k-is ∙ l.invariant.1.1.0, came.work-is ∙ l.invariant.1.1.1)))
+          )
     ]
 
 pub returns : goal.returns

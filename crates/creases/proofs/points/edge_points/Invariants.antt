@@ -1,19 +1,11 @@
-use borrow.Author.Rules.{rules}
-use Prim.Native.Nat.{◌+◌, ◌-◌, ◌*◌, ◌≤◌, ◌<◌}
-use mathlib.Core.Path.{◌≡◌, refl, sym, ap, ◌∙◌}
-use mathlib.Core.Logic.{⊎_elim}
-use mathlib.Core.Bool.{true}
-use native.Mathlib.Omega.{arith}
+use Prim.Native.Nat.{◌+◌, ◌-◌, ◌*◌, ◌≤◌}
+use mathlib.Core.Path.{◌≡◌}
 use lib.ListN.{length}
-use lib.Seq.{sets, length-sets}
+use lib.Seq.{sets}
 use Rattle.lists.specs.Lists.{count, keep, gather, part}
 use Rattle.rules.specs.Mesh.{links, first_met}
 use Rattle.rules.specs.Position.{whole}
-use Rattle.weights.specs.Lent.{lowered}
-use Rattle.levels.specs.Moves.{edges_in}
-use Rattle.levels.proofs.Moves.{sides-long, room_of_lem, test-is}
 use Rattle.creases.specs.Moves.{sharp_edge_at}
-use Rattle.creases.proofs.Moves.{edge-room, edge_kept, edge_same, edge_count, edge_more, edges-all}
 use Rattle.creases.proofs.points.edge_points.Given as goal
 
 abbrev pub invariant-loop-s : goal.invariant-loop-s

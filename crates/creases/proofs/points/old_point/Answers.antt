@@ -3,7 +3,6 @@ use native.Mathlib.Omega.{arith}
 use mathlib.Core.Path.{sym}
 use lib.ListN.{length, replicate}
 use lib.Seq.{length-take-le}
-use borrow.Author.Rules.{rules}
 use Rattle.lists.specs.Lists.{part}
 use Rattle.lists.proofs.Stores.{length_part}
 use Rattle.turns.specs.Turns.{most_valence}
@@ -47,10 +46,13 @@ creased-requires c = let a = c.args in
     let o = c.sharp_ring-ring.new.out in
     let l : 3 * a.nv ≤ length (part a.from (3 * a.nv) a.work.now) = omega (arith, length_part a.work.now a.from (3 * a.nv) r.room) in
     rw (lent_is a.work.now a.from (3 * a.nv)) (
-      record { readable = old-reads a.words.now a.at a.marks a.nf a.nv r.mesh.0 a.u r.mesh.1 c.sharp_ring-ring.result c.sharp_ring-ring.ensures.ring (replicate most_valence 0) o (omega arith) c.sharp_ring-ring.ensures.out l r.near; creasable = old-ends a.words.now a.at a.marks a.nf a.nv r.mesh.0 a.u r.mesh.1 c.sharp_ring-ring.result c.sharp_ring-ring.ensures.ring (replicate most_valence 0) o (omega arith) c.sharp_ring-ring.ensures.out l r.near }
+    record { readable = old-reads a.words.now a.at a.marks a.nf a.nv r.mesh.0 a.u r.mesh.1 c.sharp_ring-ring.result c.sharp_ring-ring.ensures.ring (replicate most_valence 0) o (omega arith) c.sharp_ring-ring.ensures.out l r.near; creasable = old-ends a.words.now a.at a.marks a.nf a.nv r.mesh.0 a.u r.mesh.1 c.sharp_ring-ring.result c.sharp_ring-ring.ensures.ring (replicate most_valence 0) o (omega arith) c.sharp_ring-ring.ensures.out l r.near }
     )
 
 pub returns : goal.returns
 returns c = let a = c.args in
-    let r = c.requires in record { point = old-is a.words.now a.at a.marks a.nf a.nv r.mesh.0 a.u r.mesh.1 c.sharp_ring-ring.result c.sharp_ring-ring.ensures.ring (replicate most_valence 0) c.sharp_ring-ring.new.out (omega arith) c.sharp_ring-ring.ensures.out whole refining (part a.from (3 * a.nv) a.work.now)
-          (lowered c.creased.result) (rw (lent_is a.work.now a.from (3 * a.nv)) at c.creased.ensures.point); near = c.creased.ensures.near }
+    let r = c.requires in record {
+      point = old-is a.words.now a.at a.marks a.nf a.nv r.mesh.0 a.u r.mesh.1 c.sharp_ring-ring.result c.sharp_ring-ring.ensures.ring (replicate most_valence 0) c.sharp_ring-ring.new.out (omega arith) c.sharp_ring-ring.ensures.out whole refining (part a.from (3 * a.nv) a.work.now)
+          (lowered c.creased.result) (rw (lent_is a.work.now a.from (3 * a.nv)) at c.creased.ensures.point);
+      near = c.creased.ensures.near;
+    }

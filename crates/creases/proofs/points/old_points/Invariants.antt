@@ -1,14 +1,10 @@
-use borrow.Author.Rules.{rules}
 use Prim.Native.Nat.{◌-◌, ◌*◌, ◌≤◌}
-use mathlib.Core.Path.{◌≡◌, refl, ap, ◌∙◌}
-use native.Mathlib.Omega.{arith}
+use mathlib.Core.Path.{◌≡◌}
 use lib.ListN.{length}
-use lib.Seq.{sets, length-sets}
+use lib.Seq.{sets}
 use Rattle.lists.specs.Lists.{count, gather, part}
 use Rattle.rules.specs.Position.{whole}
-use Rattle.weights.specs.Lent.{lowered}
 use Rattle.creases.specs.Moves.{sharp_old}
-use Rattle.creases.proofs.Moves.{old-kept, old-more}
 use Rattle.creases.proofs.points.old_points.Given as goal
 
 abbrev pub invariant-loop-u : goal.invariant-loop-u

@@ -1,9 +1,7 @@
 use mathlib.Core.Path.{◌≡◌, refl, sym, ap, ap₂, ◌∙◌}
 use mathlib.Core.Bool.{Bool}
-use mathlib.Core.Logic.{⊎_elim}
-use Prim.Native.Nat.{ℕ, suc, ◌+◌, ◌-◌, ◌*◌, ◌/◌, ◌%◌, ◌<◌}
+use Prim.Native.Nat.{ℕ, suc, ◌+◌, ◌*◌, ◌/◌, ◌%◌}
 use native.Mathlib.Omega.{arith}
-use borrow.Author.Rules.{rules}
 use native.Mathlib.Numerals.{add-one}
 use mathlib.Core.List.{List}
 use lib.ListN.{length, get_or, set, take, length-map, length-set}
@@ -155,11 +153,11 @@ returns c = let a = c.args in
     let fs = part a.corners (3 * a.nf) w in
     let q : suc l.n ≡ length cs =
     elim c.match-prev_corner.branch [
-    in-Home m ↦ (
-      then-home next a.q a.s p.2.stops l.n l.at l.invariant.1 l.invariant.2 (stepped c.before.before ∙ m.in-Home.is)
-    )
-    | in-Off m ↦ (
-      then-off next a.q a.s p.2.stops l.n l.at l.invariant.1 l.invariant.2 (stepped c.before.before ∙ m.in-Off.is)
-    )
+      | in-Home m ↦ (
+          then-home next a.q a.s p.2.stops l.n l.at l.invariant.1 l.invariant.2 (stepped c.before.before ∙ m.in-Home.is)
+          )
+      | in-Off m ↦ (
+          then-off next a.q a.s p.2.stops l.n l.at l.invariant.1 l.invariant.2 (stepped c.before.before ∙ m.in-Off.is)
+          )
     ] in
     let e : l.n + 1 ≡ length (backs fs cs) = omega (arith, length-map cs (λ s. corner fs (backward s))) in record { count = ap (λ (z : ℕ). a.from + z) e; sharp = tallied-on c.before.before ∙ ap (λ (x : List ℕ). tally (comes (marks_in w a.marks a.nf)) x) (take_all (l.n + 1) cs (omega arith)); ring = stored c.before.before.before.before.before ∙ store-all a.out.now (backs fs cs) a.from (l.n + 1) e }

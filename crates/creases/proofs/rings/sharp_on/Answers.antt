@@ -1,11 +1,10 @@
 use mathlib.Core.Path.{◌≡◌, refl, sym, ap, ap₂, ◌∙◌}
 use mathlib.Core.Bool.{Bool}
-use Prim.Native.Nat.{ℕ, suc, ◌+◌, ◌-◌, ◌*◌, ◌≤◌, ◌<◌}
+use Prim.Native.Nat.{ℕ, suc, ◌+◌, ◌-◌, ◌*◌}
 use native.Mathlib.Omega.{arith}
 use native.Mathlib.Numerals.{add-one}
-use borrow.Author.Rules.{rules}
 use mathlib.Core.List.{List}
-use lib.ListN.{length, get_or, set, take, length-map, length-set}
+use lib.ListN.{length, set, take, length-map, length-set}
 use lib.Seq.{sets}
 use Rattle.lists.specs.Lists.{part, pick, keep}
 use Rattle.lists.proofs.Stores.{get_d_part}

@@ -1,29 +1,15 @@
-use mathlib.Core.Path.{◌≡◌, refl, sym, ap, ap₂, ◌∙◌}
-use mathlib.Core.Bool.{Bool}
-use Prim.Native.Nat.{ℕ, suc, ◌+◌, ◌-◌, ◌*◌, ◌≤◌, ◌<◌}
-use native.Mathlib.Omega.{arith}
-use native.Mathlib.Numerals.{add-one}
-use borrow.Author.Rules.{rules}
-use mathlib.Core.List.{List}
-use lib.ListN.{length, get_or, set, take, length-map, length-set}
+use mathlib.Core.Path.{◌≡◌}
+use Prim.Native.Nat.{◌-◌, ◌*◌, ◌≤◌, ◌<◌}
+use lib.ListN.{length, get_or, take}
 use lib.Seq.{sets}
-use Rattle.lists.specs.Lists.{part, pick, keep}
-use Rattle.lists.proofs.Stores.{get_d_part}
+use Rattle.lists.specs.Lists.{part, keep}
 use Rattle.rules.specs.Sharp.{sharp}
-use Rattle.rules.specs.Mesh.{onward, corner, here, Stop, closed, ended, long, walk, passed, stop_of, next_corner}
-use Rattle.rules.proofs.Sides.{on_below}
+use Rattle.rules.specs.Mesh.{here, walk, passed, next_corner}
 use Rattle.faces.specs.Words.{links_in}
-use Rattle.faces.specs.Rings.{step_of, trip_by, trip_of, inners}
-use Rattle.faces.specs.declared.walks.Trip.TheVariants as trip
-use Rattle.faces.proofs.Links.{next-at, next-below}
-use Rattle.faces.proofs.Trails.{some-passed, filled, from-corner, then-here, then-home, then-off}
-use Rattle.faces.proofs.Trips.{first-passed, trip_from, trip_on, trip-starts, trip-turn, trip-long}
-use Rattle.faces.proofs.Gathered.{store-more, store-all, inner-at}
+use Rattle.faces.specs.Rings.{trip_of, inners}
+use Rattle.faces.proofs.Trips.{trip_from}
 use Rattle.marks.specs.Marks.{marks_in}
-use Rattle.marks.proofs.Marks.{mark-at}
-use Rattle.creases.specs.Rings.{met_of, noted}
-use Rattle.creases.specs.declared.rings.Met.{Met}
-use Rattle.creases.proofs.Creases.{met-few, met-more, met_all}
+use Rattle.creases.specs.Rings.{met_of}
 use Rattle.creases.proofs.rings.sharp_on.Given as goal
 
 -- what gather_on does, with the sharp edges met

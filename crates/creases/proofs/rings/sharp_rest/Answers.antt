@@ -4,7 +4,6 @@ use native.Mathlib.Omega.{arith}
 use mathlib.Core.List.{List}
 use lib.ListN.{length-map}
 use lib.Seq.{sets, length-sets}
-use borrow.Author.Rules.{rules}
 use Rattle.lists.specs.Lists.{part}
 use Rattle.lists.proofs.Stores.{sets-next}
 use Rattle.turns.specs.Turns.{most_valence}
@@ -51,6 +50,11 @@ pub returns : goal.returns
 returns c = let a = c.args in
     let p = c.requires in
     let o = a.out.now in
-    let b = backs (part a.corners (3 * a.nf) a.words.now) (passed (walk (prev_corner (links_in a.words.now a.links (3 * a.nf)) a.end) (a.nf + 1 - a.n) (here a.s))) in record { count = c.sharp_back-r.ensures.count; creases = ap (λ (z : ℕ). 2 + a.k + z) c.sharp_back-r.ensures.sharp; ends = (refl, refl); ring = c.sharp_back-r.ensures.ring
-              ∙ ap (λ (x : List ℕ). sets x a.n b) c.upend.ensures
-              ∙ sets-next (down_from o (a.n - 1)) b o 0 a.n (rw (length-down o (a.n - 1)) (omega (arith, p.on.0))) }
+    let b = backs (part a.corners (3 * a.nf) a.words.now) (passed (walk (prev_corner (links_in a.words.now a.links (3 * a.nf)) a.end) (a.nf + 1 - a.n) (here a.s))) in record {
+      count = c.sharp_back-r.ensures.count;
+      creases = ap (λ (z : ℕ). 2 + a.k + z) c.sharp_back-r.ensures.sharp;
+      ends = (refl, refl);
+      ring = c.sharp_back-r.ensures.ring
+          ∙ ap (λ (x : List ℕ). sets x a.n b) c.upend.ensures
+          ∙ sets-next (down_from o (a.n - 1)) b o 0 a.n (rw (length-down o (a.n - 1)) (omega (arith, p.on.0)));
+    }

@@ -1,10 +1,9 @@
 use mathlib.Core.Path.{◌≡◌, sym, ap, ap₂, ◌∙◌}
-use Prim.Native.Nat.{ℕ, ◌+◌, ◌-◌, ◌*◌, ◌≤◌, ◌<◌}
+use Prim.Native.Nat.{ℕ, ◌+◌, ◌-◌, ◌*◌, ◌≤◌}
 use native.Mathlib.Omega.{arith}
 use mathlib.Core.List.{List, ◌++◌}
 use lib.ListN.{length, get_or, length-map, length-append}
 use lib.Seq.{sets, length-sets}
-use borrow.Author.Rules.{rules}
 use Rattle.lists.specs.Lists.{part, keep, tally}
 use Rattle.lists.proofs.Places.{length-keep}
 use Rattle.rules.specs.Mesh.{Fan, onward, backward, corner, here, walk, passed, stop_of, next_corner, prev_corner, fan, ring}

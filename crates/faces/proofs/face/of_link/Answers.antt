@@ -1,4 +1,3 @@
-use borrow.Author.Rules.{rules}
 use Rattle.faces.proofs.face.of_link.Goals as goal
 
 pub returns-in-To : goal.returns-in-To

@@ -1,4 +1,3 @@
-use borrow.Author.Rules.{rules}
 use Rattle.faces.proofs.face.prev_vert.Goals as goal
 
 pub returns : goal.returns

@@ -1,4 +1,3 @@
-use borrow.Author.Rules.{rules}
 use Rattle.faces.proofs.face.vert_at.Goals as goal
 
 pub returns-in-First : goal.returns-in-First

@@ -1,8 +1,6 @@
 use mathlib.Core.Path.{◌≡◌, refl, sym, ap, ◌∙◌}
-use mathlib.Core.Logic.{⊎_elim}
 use Prim.Native.Nat.{ℕ, suc, ◌+◌, ◌-◌, ◌*◌, ◌<◌}
 use native.Mathlib.Omega.{arith}
-use borrow.Author.Rules.{rules}
 use native.Mathlib.Numerals.{add-one}
 use mathlib.Core.List.{List}
 use lib.ListN.{length, get_or, set, take, length-map, length-set}
@@ -119,7 +117,7 @@ returns c = let k = c.before.before in
     let fs = part a.corners (3 * a.nf) w in
     let q : suc l.n ≡ length cs =
     elim c.match-prev_corner.branch [
-      in-Home m ↦ then-home next (a.nf + 1 - a.from) a.s p.2.stops l.n l.at l.invariant.1 l.invariant.2 (stepped k ∙ m.in-Home.is)
+      | in-Home m ↦ then-home next (a.nf + 1 - a.from) a.s p.2.stops l.n l.at l.invariant.1 l.invariant.2 (stepped k ∙ m.in-Home.is)
       | in-Off m ↦ then-off next (a.nf + 1 - a.from) a.s p.2.stops l.n l.at l.invariant.1 l.invariant.2 (stepped k ∙ m.in-Off.is)
     ] in
     let e : l.n + 1 ≡ length (backs fs cs) = omega (arith, length-map cs (λ s. corner fs (backward s))) in

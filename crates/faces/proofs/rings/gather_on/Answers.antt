@@ -1,10 +1,9 @@
 use mathlib.Core.Path.{◌≡◌, refl, sym, ap, ◌∙◌}
-use Prim.Native.Nat.{ℕ, suc, ◌+◌, ◌-◌, ◌*◌, ◌≤◌, ◌<◌}
+use Prim.Native.Nat.{ℕ, suc, ◌+◌, ◌-◌, ◌*◌}
 use native.Mathlib.Omega.{arith}
 use native.Mathlib.Numerals.{add-one}
-use borrow.Author.Rules.{rules}
 use mathlib.Core.List.{List}
-use lib.ListN.{length, get_or, set, take, length-map, length-set}
+use lib.ListN.{length, set, take, length-map, length-set}
 use lib.Seq.{sets}
 use Rattle.lists.specs.Lists.{part}
 use Rattle.rules.specs.Mesh.{onward, corner, here, Stop, closed, ended, long, walk, passed, stop_of, next_corner}

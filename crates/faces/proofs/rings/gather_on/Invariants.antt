@@ -1,20 +1,12 @@
-use mathlib.Core.Path.{◌≡◌, refl, sym, ap, ◌∙◌}
-use Prim.Native.Nat.{ℕ, suc, ◌+◌, ◌-◌, ◌*◌, ◌≤◌, ◌<◌}
-use native.Mathlib.Omega.{arith}
-use native.Mathlib.Numerals.{add-one}
-use borrow.Author.Rules.{rules}
-use mathlib.Core.List.{List}
-use lib.ListN.{length, get_or, set, take, length-map, length-set}
+use mathlib.Core.Path.{◌≡◌}
+use Prim.Native.Nat.{◌-◌, ◌*◌, ◌≤◌, ◌<◌}
+use lib.ListN.{length, get_or, take}
 use lib.Seq.{sets}
 use Rattle.lists.specs.Lists.{part}
-use Rattle.rules.specs.Mesh.{onward, corner, here, Stop, closed, ended, long, walk, passed, stop_of, next_corner}
+use Rattle.rules.specs.Mesh.{here, walk, passed, next_corner}
 use Rattle.faces.specs.Words.{links_in}
-use Rattle.faces.specs.Rings.{step_of, trip_by, trip_of, inners}
-use Rattle.faces.specs.declared.walks.Trip.TheVariants as trip
-use Rattle.faces.proofs.Links.{next-at, next-below}
-use Rattle.faces.proofs.Trails.{some-passed, filled, from-corner, then-here, then-home, then-off}
-use Rattle.faces.proofs.Trips.{first-passed, trip_from, trip_on, trip-starts, trip-turn, trip-long}
-use Rattle.faces.proofs.Gathered.{store-more, store-all, inner-at}
+use Rattle.faces.specs.Rings.{trip_of, inners}
+use Rattle.faces.proofs.Trips.{trip_from}
 use Rattle.faces.proofs.rings.gather_on.Given as goal
 
 -- what the walk finds, as in `by_next`, and what it has stored

@@ -1,7 +1,6 @@
 use mathlib.Core.Path.{◌≡◌, refl, ap}
 use Prim.Native.Nat.{ℕ, zero, suc, ◌+◌, ◌-◌, ◌≤◌}
 use native.Mathlib.Omega.{arith}
-use borrow.Author.Rules.{rules}
 use lib.ListN.{get_or}
 use Rattle.faces.proofs.Links.{link-word}
 use Rattle.faces.proofs.rings.next_vert_at.Goals as goal

@@ -14,7 +14,6 @@ use Rattle.faces.specs.declared.rings.Ring.{Ring}
 use Rattle.faces.proofs.Trails.{faces-in, inner-is, rim-is, long-is}
 use Rattle.faces.proofs.Retrace.{length-down}
 use Rattle.faces.proofs.Passage.{turned, on-ends, turned-over, counted-closed}
-use borrow.Author.Rules.{rules}
 use Rattle.faces.proofs.rings.one_ring.Goals as goal
 
 abbrev counted : ℕ → Bool → Ring
@@ -59,10 +58,13 @@ returns-in-Ended c = let a = c.args in
     let lb : length b ≡ length back = length-map back (λ s. corner fs (backward s)) in
     let lo : length (inners fs on) ≡ n = length-map on (λ s. corner fs (onward s)) ∙ t.0 in
     let ln : n + length b ≡ length (ring fs (fan ls a.s)) =
-    sym (ap (λ (l : List ℕ). length l) t.1.ring ∙ length-append (down_from (inners fs on) (n - 1)) b ∙ rw (length-down (inners fs on) (n - 1)) (omega (arith, t.1.some))) in record { ring = ap₂ counted (c.rim_rest.ensures.count ∙ ln) (sym (ap is_rim i.is)); out = c.rim_rest.ensures.ring
+    sym (ap (λ (l : List ℕ). length l) t.1.ring ∙ length-append (down_from (inners fs on) (n - 1)) b ∙ rw (length-down (inners fs on) (n - 1)) (omega (arith, t.1.some))) in record {
+      ring = ap₂ counted (c.rim_rest.ensures.count ∙ ln) (sym (ap is_rim i.is));
+      out = c.rim_rest.ensures.ring
           ∙ ap (λ (o : List ℕ). sets o 0 (down_from o (n - 1) ++ b)) c.gather_on.ensures.ring
           ∙ turned-over a.out.now (inners fs on) b n t.1.some lo (omega (arith, t.1.back.few, t.1.fits, p.1, lb))
-          ∙ sym (ap (λ (l : List ℕ). sets a.out.now 0 l) t.1.ring) }
+          ∙ sym (ap (λ (l : List ℕ). sets a.out.now 0 l) t.1.ring);
+    }
 
 pub returns-in-Long : goal.returns-in-Long
 returns-in-Long c = let a = c.args in

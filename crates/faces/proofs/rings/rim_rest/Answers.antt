@@ -1,7 +1,6 @@
 use mathlib.Core.Path.{ap, ◌∙◌}
 use Prim.Native.Nat.{ℕ, ◌+◌, ◌-◌, ◌*◌}
 use native.Mathlib.Omega.{arith}
-use borrow.Author.Rules.{rules}
 use mathlib.Core.List.{List}
 use lib.Seq.{sets}
 use Rattle.lists.specs.Lists.{part}
@@ -17,6 +16,9 @@ pub returns : goal.returns
 returns c = let a = c.args in
     let p = c.requires in
     let o = a.out.now in
-    let b = backs (part a.corners (3 * a.nf) a.words.now) (passed (walk (prev_corner (links_in a.words.now a.links (3 * a.nf)) a.end) (a.nf + 1 - a.n) (here a.s))) in record { count = c.gather_back.ensures.count; ring = c.gather_back.ensures.ring
+    let b = backs (part a.corners (3 * a.nf) a.words.now) (passed (walk (prev_corner (links_in a.words.now a.links (3 * a.nf)) a.end) (a.nf + 1 - a.n) (here a.s))) in record {
+      count = c.gather_back.ensures.count;
+      ring = c.gather_back.ensures.ring
           ∙ ap (λ (x : List ℕ). sets x a.n b) c.upend.ensures
-          ∙ sets-next (down_from o (a.n - 1)) b o 0 a.n (rw (length-down o (a.n - 1)) (omega (arith, p.on.0))) }
+          ∙ sets-next (down_from o (a.n - 1)) b o 0 a.n (rw (length-down o (a.n - 1)) (omega (arith, p.on.0)));
+    }

@@ -1,8 +1,7 @@
 use Prim.Native.Nat.{◌-◌}
 use native.Mathlib.Omega.{arith}
-use borrow.Author.Rules.{rules}
 use lib.ListN.{get_or, length-set}
-use Rattle.faces.proofs.Exchanges.{Upended, none_yet, exchanged, all-upended}
+use Rattle.faces.proofs.Exchanges.{none_yet, exchanged, all-upended}
 use Rattle.faces.proofs.rings.upend.Goals as goal
 
 pub loop-i-init : goal.loop-i-init

@@ -1,5 +1,4 @@
 use Rattle.faces.proofs.Links.{link-word}
-use borrow.Author.Rules.{rules}
 use Rattle.faces.proofs.sides.decode.Goals as goal
 
 pub returns-else-x-eq0 : goal.returns-else-x-eq0

@@ -1,7 +1,6 @@
 use mathlib.Core.Path.{◌≡◌, sym, ap, ◌∙◌}
-use Prim.Native.Nat.{◌+◌, ◌-◌, ◌*◌, ◌≤◌, ◌<◌}
+use Prim.Native.Nat.{◌+◌, ◌-◌, ◌*◌}
 use native.Mathlib.Omega.{arith}
-use borrow.Author.Rules.{rules}
 use Rattle.rules.specs.Mesh.{here, walk, next_corner}
 use Rattle.faces.specs.Words.{links_in}
 use Rattle.faces.specs.Rings.{step_of, trip_of}
@@ -40,8 +39,7 @@ pub loop-n-preserved : goal.loop-n-preserved
 loop-n-preserved c = let k = c.before.before in
     let a = k.args in
     let p = k.requires in
-    let l = k.loop-n in
-    (
+    let l = k.loop-n in (
       next-below a.words.now a.links a.nf a.s p a.s l.at c.in-Here.t l.invariant.0
           (ap step_of (next-at a.words.now a.links a.nf a.s p a.s l.at l.invariant.0) ∙ sym k.next_corner.ensures ∙ c.in-Here.is),
       omega arith,

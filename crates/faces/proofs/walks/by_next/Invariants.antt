@@ -1,12 +1,9 @@
-use mathlib.Core.Path.{◌≡◌, sym, ap, ◌∙◌}
-use Prim.Native.Nat.{◌+◌, ◌-◌, ◌*◌, ◌≤◌, ◌<◌}
-use native.Mathlib.Omega.{arith}
-use borrow.Author.Rules.{rules}
+use mathlib.Core.Path.{◌≡◌}
+use Prim.Native.Nat.{◌-◌, ◌*◌, ◌≤◌, ◌<◌}
 use Rattle.rules.specs.Mesh.{here, walk, next_corner}
 use Rattle.faces.specs.Words.{links_in}
-use Rattle.faces.specs.Rings.{step_of, trip_of}
-use Rattle.faces.proofs.Links.{next-at, next-below}
-use Rattle.faces.proofs.Trips.{trip_from, trip_on, trip-starts, trip-turn, trip-long}
+use Rattle.faces.specs.Rings.{trip_of}
+use Rattle.faces.proofs.Trips.{trip_from}
 use Rattle.faces.proofs.walks.by_next.Given as goal
 
 abbrev pub invariant-loop-n : goal.invariant-loop-n

@@ -1,8 +1,5 @@
 use mathlib.Core.Path.{◌∙◌}
-use Prim.Native.Nat.{◌+◌}
-use native.Mathlib.Omega.{arith}
 use Rattle.faces.proofs.Links.{link-word}
-use borrow.Author.Rules.{rules}
 use Rattle.faces.proofs.walks.next_corner.Goals as goal
 
 pub returns-then-w-eq0 : goal.returns-then-w-eq0

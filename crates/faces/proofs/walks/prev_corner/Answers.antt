@@ -2,7 +2,6 @@ use mathlib.Core.Path.{◌∙◌}
 use Prim.Native.Nat.{◌+◌}
 use native.Mathlib.Omega.{arith}
 use Rattle.faces.proofs.Links.{link-word}
-use borrow.Author.Rules.{rules}
 use Rattle.faces.proofs.walks.prev_corner.Goals as goal
 
 pub overflow_cast-t : goal.overflow_cast-t

@@ -1,4 +1,3 @@
-use borrow.Author.Rules.{rules}
 use Rattle.faces.proofs.walks.rim_turn.Goals as goal
 
 pub returns-in-Ended : goal.returns-in-Ended

@@ -6,7 +6,6 @@ use Rattle.faces.specs.Rings.{trip_of, rim_turn, turn_of}
 use Rattle.faces.specs.declared.walks.Trip.{Trip}
 use Rattle.faces.proofs.Trips.{turn_by, turn_is}
 use Rattle.faces.proofs.Trails.{faces-in, filled, from-corner, end_below}
-use borrow.Author.Rules.{rules}
 use Rattle.faces.proofs.walks.turn_round.Lts
 use Rattle.faces.proofs.walks.turn_round.Reads
 use Rattle.faces.proofs.walks.turn_round.Tie

@@ -10,7 +10,6 @@ use Rattle.rules.proofs.Refine.{back_below}
 use Rattle.weights.specs.Lent.{lowered}
 use Rattle.weights.proofs.Joins.{readable}
 use Rattle.levels.proofs.Moves.{lent_is, corner-small, link-small, across-below, rim-is, inner-is}
-use borrow.Author.Rules.{rules}
 use Rattle.levels.proofs.micrometres.edge_point.Goals as goal
 
 pub edge_rim-requires : goal.edge_rim-requires

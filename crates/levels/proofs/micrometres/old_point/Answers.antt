@@ -9,7 +9,6 @@ use Rattle.turns.specs.Turns.{most_valence}
 use Rattle.rules.specs.Position.{refining, whole}
 use Rattle.weights.specs.Lent.{lowered}
 use Rattle.levels.proofs.Moves.{lent_is, start_small, ring-asks, ring-fits, old-whole, moved-is}
-use borrow.Author.Rules.{rules}
 use Rattle.levels.proofs.micrometres.old_point.Lts
 use Rattle.levels.proofs.micrometres.old_point.Reads
 use Rattle.levels.proofs.micrometres.old_point.Tie
@@ -49,5 +48,8 @@ vertex-requires c = let a = c.args in
 
 pub returns : goal.returns
 returns c = let a = c.args in
-    let r = c.requires in record { point = moved-is a.words.now a.at a.nf a.nv r.mesh.0 a.u r.mesh.1 c.one_ring-ring.result c.one_ring-ring.ensures.ring (replicate most_valence 0) c.one_ring-ring.new.out (omega arith) c.one_ring-ring.ensures.out whole refining (part a.from (3 * a.nv) a.work.now)
-          (lowered c.vertex.result) (rw (lent_is a.work.now a.from (3 * a.nv)) at c.vertex.ensures.point); near = c.vertex.ensures.near }
+    let r = c.requires in record {
+      point = moved-is a.words.now a.at a.nf a.nv r.mesh.0 a.u r.mesh.1 c.one_ring-ring.result c.one_ring-ring.ensures.ring (replicate most_valence 0) c.one_ring-ring.new.out (omega arith) c.one_ring-ring.ensures.out whole refining (part a.from (3 * a.nv) a.work.now)
+          (lowered c.vertex.result) (rw (lent_is a.work.now a.from (3 * a.nv)) at c.vertex.ensures.point);
+      near = c.vertex.ensures.near;
+    }

@@ -3,7 +3,6 @@ use lib.ListN.{length}
 use Rattle.rules.specs.Position.{whole}
 use Rattle.levels.specs.Moves.{Placed, edges_in}
 use Rattle.levels.proofs.Moves.{points_kept, points-are}
-use borrow.Author.Rules.{rules}
 use Rattle.levels.proofs.micrometres.refine_points.Goals as goal
 
 pub edge_points-requires : goal.edge_points-requires

@@ -9,7 +9,6 @@ use Rattle.turns.specs.Turns.{most_valence}
 use Rattle.rules.specs.Position.{refining, single}
 use Rattle.weights.specs.Lent.{listed}
 use Rattle.levels.proofs.Moves.{lent_is, start_small, ring-asks, ring-fits, old-single, moved-is}
-use borrow.Author.Rules.{rules}
 use Rattle.levels.proofs.points.old_point.Lts
 use Rattle.levels.proofs.points.old_point.Reads
 use Rattle.levels.proofs.points.old_point.Tie

@@ -1,13 +1,9 @@
-use borrow.Author.Rules.{rules}
-use Prim.Native.Nat.{◌-◌, ◌*◌, ◌≤◌}
 use mathlib.Core.Path.{◌≡◌, refl, ap, ◌∙◌}
 use native.Mathlib.Omega.{arith}
 use lib.ListN.{length}
-use lib.Seq.{sets, length-sets}
-use Rattle.lists.specs.Lists.{count, gather, part}
+use lib.Seq.{length-sets}
 use Rattle.rules.specs.Position.{single}
 use Rattle.weights.specs.Lent.{listed}
-use Rattle.levels.specs.Moves.{old_point}
 use Rattle.levels.proofs.Moves.{old-more}
 use Rattle.levels.proofs.points.old_points.Goals as goal
 

@@ -3,7 +3,6 @@ use lib.ListN.{length}
 use Rattle.rules.specs.Position.{single}
 use Rattle.levels.specs.Moves.{Placed, edges_in}
 use Rattle.levels.proofs.Moves.{points-are}
-use borrow.Author.Rules.{rules}
 use Rattle.levels.proofs.points.refine_points.Goals as goal
 
 pub edge_points-requires : goal.edge_points-requires

@@ -1,11 +1,7 @@
-use borrow.Author.Rules.{rules}
 use borrow.Author.Count.{below_more}
 use borrow.Author.Tests.{le-leb, lt-leb}
 use native.Mathlib.Omega.{arith}
-use Prim.Native.Nat.{ℕ, ◌-◌, ◌≤◌, ◌<◌}
-use mathlib.Core.Path.{◌≡◌, sym, ◌∙◌}
-use mathlib.Core.Bool.{false}
-use lib.ListN.{length, get_or}
+use mathlib.Core.Path.{sym, ◌∙◌}
 use Rattle.limits.proofs.Search.{find-here, find-nowhere}
 use lib.Dec.{leb}
 use Rattle.limits.proofs.list.beyond.Goals as goal

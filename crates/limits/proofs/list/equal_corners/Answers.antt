@@ -1,5 +1,4 @@
 use borrow.Author.Tests.{eq-eqb, ne_eqb}
-use borrow.Author.Rules.{rules}
 use Rattle.limits.proofs.list.equal_corners.Goals as goal
 
 pub returns-then-a-b : goal.returns-then-a-b

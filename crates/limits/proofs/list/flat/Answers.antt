@@ -1,9 +1,7 @@
-use borrow.Author.Rules.{rules}
 use borrow.Author.Count.{below_more}
 use native.Mathlib.Omega.{arith}
-use Prim.Native.Nat.{ℕ, ◌/◌, ◌-◌, ◌≤◌, ◌<◌}
-use mathlib.Core.Path.{◌≡◌, sym, ◌∙◌}
-use mathlib.Core.Bool.{false}
+use Prim.Native.Nat.{◌/◌}
+use mathlib.Core.Path.{sym, ◌∙◌}
 use lib.ListN.{length}
 use Rattle.limits.proofs.Search.{lowest-here, lowest-nowhere}
 use Rattle.rules.specs.Refusals.{equal_corners}

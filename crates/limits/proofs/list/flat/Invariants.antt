@@ -1,11 +1,7 @@
-use borrow.Author.Rules.{rules}
-use borrow.Author.Count.{below_more}
-use native.Mathlib.Omega.{arith}
 use Prim.Native.Nat.{ℕ, ◌/◌, ◌-◌, ◌≤◌, ◌<◌}
-use mathlib.Core.Path.{◌≡◌, sym, ◌∙◌}
+use mathlib.Core.Path.{◌≡◌}
 use mathlib.Core.Bool.{false}
 use lib.ListN.{length}
-use Rattle.limits.proofs.Search.{lowest-here, lowest-nowhere}
 use Rattle.rules.specs.Refusals.{equal_corners}
 use Rattle.limits.proofs.list.flat.Given as goal
 

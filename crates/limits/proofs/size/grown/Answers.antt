@@ -7,7 +7,6 @@ use Rattle.rules.specs.declared.Counts.{Counts}
 use Rattle.limits.proofs.Sizes.{few-faces, after_more, rims-more}
 use Rattle.limits.proofs.size.grown.Lts
 use Rattle.limits.proofs.size.grown.Reads
-use Rattle.limits.proofs.size.grown.Tie
 use Rattle.limits.proofs.size.grown.Goals as goal
 
 abbrev In-loop-i : Type 0

@@ -1,10 +1,6 @@
-use native.Mathlib.Omega.{arith}
-use Prim.Native.Nat.{ℕ, ◌+◌, ◌-◌, ◌*◌, ◌^◌, ◌≤◌}
-use mathlib.Core.Path.{◌≡◌, sym, ap, ap₂, ◌∙◌}
-use native.Mathlib.Numerals.{add-one}
-use Rattle.rules.specs.Levels.{Sizes, after}
-use Rattle.rules.specs.declared.Counts.{Counts}
-use Rattle.limits.proofs.Sizes.{few-faces, after_more, rims-more}
+use Prim.Native.Nat.{◌+◌, ◌-◌, ◌*◌, ◌^◌, ◌≤◌}
+use mathlib.Core.Path.{◌≡◌}
+use Rattle.rules.specs.Levels.{after}
 use Rattle.limits.proofs.size.grown.Given as goal
 
 abbrev pub invariant-loop-i : goal.invariant-loop-i

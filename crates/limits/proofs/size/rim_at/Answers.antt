@@ -1,6 +1,5 @@
 use lib.ListN.{get_or}
 use Rattle.faces.proofs.Links.{link-word}
-use borrow.Author.Rules.{rules}
 use Rattle.limits.proofs.size.rim_at.Goals as goal
 
 pub returns-then-words-s-eq0 : goal.returns-then-words-s-eq0

@@ -1,5 +1,4 @@
 use borrow.Author.Tests.{lt-ltb, le-ltb}
-use borrow.Author.Rules.{rules}
 use Rattle.limits.proofs.size.size.Goals as goal
 
 pub returns-then-c-gt32768 : goal.returns-then-c-gt32768

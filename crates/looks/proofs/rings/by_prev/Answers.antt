@@ -1,7 +1,6 @@
 use mathlib.Core.Path.{◌≡◌, sym, ap, ◌∙◌}
-use Prim.Native.Nat.{◌+◌, ◌-◌, ◌*◌, ◌≤◌, ◌<◌}
+use Prim.Native.Nat.{◌+◌, ◌-◌, ◌*◌}
 use native.Mathlib.Omega.{arith}
-use borrow.Author.Rules.{rules}
 use Rattle.lists.specs.Lists.{part}
 use Rattle.rules.specs.Mesh.{here, walk, links, prev_corner}
 use Rattle.faces.specs.Rings.{trip_of}
@@ -41,8 +40,7 @@ turned k =
 pub loop-n-preserved : goal.loop-n-preserved
 loop-n-preserved c = let a = c.args in
     let p = c.requires in
-    let l = c.loop-n in
-    (
+    let l = c.loop-n in (
       prev-below a.words.now a.at a.nf p.0 a.s l.x c.in-Here.t l.invariant.0 (sym c.prev_corner.ensures ∙ c.in-Here.is),
       omega arith,
       rw c.in-Here.is at (turned c.before.before),

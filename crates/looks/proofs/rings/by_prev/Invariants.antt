@@ -1,12 +1,9 @@
-use mathlib.Core.Path.{◌≡◌, sym, ap, ◌∙◌}
-use Prim.Native.Nat.{◌+◌, ◌-◌, ◌*◌, ◌≤◌, ◌<◌}
-use native.Mathlib.Omega.{arith}
-use borrow.Author.Rules.{rules}
+use mathlib.Core.Path.{◌≡◌}
+use Prim.Native.Nat.{◌-◌, ◌*◌, ◌≤◌, ◌<◌}
 use Rattle.lists.specs.Lists.{part}
 use Rattle.rules.specs.Mesh.{here, walk, links, prev_corner}
 use Rattle.faces.specs.Rings.{trip_of}
-use Rattle.looks.proofs.Walks.{prev-below}
-use Rattle.faces.proofs.Trips.{trip_from, trip_on, trip-starts, trip-turn, trip-long}
+use Rattle.faces.proofs.Trips.{trip_from}
 use Rattle.looks.proofs.rings.by_prev.Given as goal
 
 abbrev pub invariant-loop-n : goal.invariant-loop-n

@@ -1,11 +1,10 @@
 use mathlib.Core.Path.{◌≡◌, refl, sym, ap, ap₂, ◌∙◌}
 use mathlib.Core.Bool.{Bool}
-use Prim.Native.Nat.{ℕ, suc, ◌+◌, ◌-◌, ◌*◌, ◌<◌}
+use Prim.Native.Nat.{ℕ, suc, ◌+◌, ◌*◌}
 use native.Mathlib.Omega.{arith}
-use borrow.Author.Rules.{rules}
 use native.Mathlib.Numerals.{add-one}
 use mathlib.Core.List.{List}
-use lib.ListN.{length, get_or, set, take, length-map, length-set}
+use lib.ListN.{length, set, take, length-map, length-set}
 use lib.Seq.{sets}
 use Rattle.lists.specs.Lists.{part, pick, keep}
 use Rattle.lists.proofs.Places.{get_d_map}

@@ -6,7 +6,6 @@ use Rattle.faces.specs.Rings.{vert}
 use Rattle.faces.specs.declared.face.Face.{Face}
 use Rattle.looks.specs.Looked.{number_of}
 use Rattle.looks.proofs.Walks.{prev-vert-is}
-use borrow.Author.Rules.{rules}
 use Rattle.looks.proofs.rings.prev_of.Goals as goal
 
 pub returns : goal.returns

@@ -4,7 +4,6 @@ use native.Mathlib.Omega.{arith}
 use mathlib.Core.List.{List}
 use lib.ListN.{length, get_or, set, length-map, length-set}
 use lib.Seq.{sets, length-sets}
-use borrow.Author.Rules.{rules}
 use Rattle.lists.specs.Lists.{part}
 use Rattle.rules.specs.Mesh.{onward, backward, corner, links, here, walk, passed, rim, ring, prev_corner}
 use Rattle.faces.specs.Rings.{backs}
@@ -82,5 +81,8 @@ returns c = let a = c.args in
     let out = c.ring_back-r.ensures.ring ∙ ap (λ (y : ℕ). sets (set o 0 y) 1 (backs fs cs)) z in
     let long : m + 1 ≡ length vs = omega (arith, c.ring_back-r.ensures.count, length-map cs (λ s. corner fs (backward s))) in
     let fits : length vs ≤ length o = omega (arith, long, (sized c.before.before.before.before.before).0) in
-    let last : m ≡ length vs - 1 = omega (arith, long) in record { ring = rim-is fs (marks_in w a.marks a.nf) cs _ long (ap (λ (y : ℕ). 2 + y) c.ring_back-r.ensures.sharp) (ap (λ (x : List ℕ). get_or x 0 0) out ∙ stored_at o vs 0 (omega (arith, long)) fits)
-          (ap₂ (λ (x : List ℕ) (i : ℕ). get_or x i 0) out last ∙ stored_at o vs (length vs - 1) (omega (arith, long)) fits); out = out }
+    let last : m ≡ length vs - 1 = omega (arith, long) in record {
+      ring = rim-is fs (marks_in w a.marks a.nf) cs _ long (ap (λ (y : ℕ). 2 + y) c.ring_back-r.ensures.sharp) (ap (λ (x : List ℕ). get_or x 0 0) out ∙ stored_at o vs 0 (omega (arith, long)) fits)
+          (ap₂ (λ (x : List ℕ) (i : ℕ). get_or x i 0) out last ∙ stored_at o vs (length vs - 1) (omega (arith, long)) fits);
+      out = out;
+    }

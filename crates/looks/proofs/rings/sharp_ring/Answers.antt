@@ -3,7 +3,6 @@ use Prim.Native.Nat.{◌-◌, ◌*◌}
 use native.Mathlib.Omega.{arith}
 use lib.ListN.{length}
 use lib.Seq.{sets}
-use borrow.Author.Rules.{rules}
 use Rattle.lists.specs.Lists.{part}
 use Rattle.rules.specs.Mesh.{Fan, links, ring}
 use Rattle.faces.proofs.Trails.{IsInner, IsRim, inner-is, rim-is, long-is, inner-ends}

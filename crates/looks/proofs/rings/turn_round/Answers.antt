@@ -6,7 +6,6 @@ use Rattle.faces.specs.Rings.{trip_of, rim_turn, turn_of}
 use Rattle.faces.specs.declared.walks.Trip.{Trip}
 use Rattle.faces.proofs.Trips.{turn_by, turn_is}
 use Rattle.looks.proofs.Walks.{faces-in, filled, end_below}
-use borrow.Author.Rules.{rules}
 use Rattle.looks.proofs.rings.turn_round.Lts
 use Rattle.looks.proofs.rings.turn_round.Reads
 use Rattle.looks.proofs.rings.turn_round.Tie

@@ -26,14 +26,21 @@ front k =
     last-points whole k.args.levels k.args.indices.now k.args.coords.now k.args.nf k.args.nv k.requires.planned k.args.words.now k.args.work.now k.requires.held k.requires.room.1.0 k.whole_front-xs.result.now k.whole_front-xs.ensures
 
 pub limit-requires : goal.limit-requires
-limit-requires c = let f = front c.before.before in record { mesh = rw c.start-at.ensures (last-movable whole c.args.levels c.args.indices.now c.args.coords.now c.args.nf c.args.nv c.requires.planned c.args.words.now c.requires.held.words); coords = (
-          rw f (omega (arith, last-long whole c.args.levels c.args.indices.now c.args.coords.now c.args.nf c.args.nv c.requires.planned c.args.words.now c.args.work.now c.requires.held c.requires.room.1.0)),
-          rw f (near-at c.args.levels c.args.levels c.args.indices.now c.args.coords.now c.requires.planned.passes).0,
-        ); room = c.requires.room.1.1.0 }
+limit-requires c = let f = front c.before.before in record {
+  mesh = rw c.start-at.ensures (last-movable whole c.args.levels c.args.indices.now c.args.coords.now c.args.nf c.args.nv c.requires.planned c.args.words.now c.requires.held.words);
+  coords = (
+    rw f (omega (arith, last-long whole c.args.levels c.args.indices.now c.args.coords.now c.args.nf c.args.nv c.requires.planned c.args.words.now c.args.work.now c.requires.held c.requires.room.1.0)),
+    rw f (near-at c.args.levels c.args.levels c.args.indices.now c.args.coords.now c.requires.planned.passes).0,
+  );
+  room = c.requires.room.1.1.0;
+}
 
 pub returns : goal.returns
 returns c = let w = c.args.words.now in
-    let t = c.start-at.ensures in record { positions = c.limit.ensures ∙ ap (λ (zs : List ℤ). sets c.args.positions.now 0 zs)
+    let t = c.start-at.ensures in record {
+      positions = c.limit.ensures ∙ ap (λ (zs : List ℤ). sets c.args.positions.now 0 zs)
           (ap (λ (at : ℕ). limits whole (mesh_in w at c.args.nf c.args.nv) (links (part at (3 * c.args.nf) w)) c.whole_front-xs.result.now) t
-          ∙ last-limits whole c.args.levels c.args.indices.now c.args.coords.now c.args.nf c.args.nv c.requires.planned w c.requires.held.words c.whole_front-xs.result.now (front c.before.before.before.before)); out = c.copy_words.ensures ∙ ap (λ (zs : List ℕ). sets c.args.out.now 0 zs)
-          (lent_is w c.start-at.result (3 * c.args.nf) ∙ ap (λ (at : ℕ). part at (3 * c.args.nf) w) t ∙ last-faces whole c.args.levels c.args.indices.now c.args.coords.now c.args.nf c.args.nv c.requires.planned w c.requires.held.words) }
+          ∙ last-limits whole c.args.levels c.args.indices.now c.args.coords.now c.args.nf c.args.nv c.requires.planned w c.requires.held.words c.whole_front-xs.result.now (front c.before.before.before.before));
+      out = c.copy_words.ensures ∙ ap (λ (zs : List ℕ). sets c.args.out.now 0 zs)
+          (lent_is w c.start-at.result (3 * c.args.nf) ∙ ap (λ (at : ℕ). part at (3 * c.args.nf) w) t ∙ last-faces whole c.args.levels c.args.indices.now c.args.coords.now c.args.nf c.args.nv c.requires.planned w c.requires.held.words);
+    }

@@ -48,13 +48,17 @@ overflow_cast-nv c = record { fits = omega (arith, (last_fits single c.args.leve
 
 pub normals-requires : goal.normals-requires
 normals-requires c = (
-      rw c.start-at.ensures (last-smooth c.args.levels c.args.indices.now c.args.coords.now c.args.nf c.args.nv c.requires.planned c.args.words.now c.requires.held.words _ (read c.before.before.before.before.before)),
-      c.requires.room.1.1.1.0,
-    )
+  rw c.start-at.ensures (last-smooth c.args.levels c.args.indices.now c.args.coords.now c.args.nf c.args.nv c.requires.planned c.args.words.now c.requires.held.words _ (read c.before.before.before.before.before)),
+  c.requires.room.1.1.1.0,
+)
 
 pub returns : goal.returns
 returns c = let w = c.args.words.now in
-    let t = c.start-at.ensures in record { positions = limited c.before.before.before.before.before.before.before.before; normals = c.normals.ensures ∙ ap (λ (zs : List Float). sets c.args.normals.now 0 zs)
-            (ap (λ (at : ℕ). gather (normal_in w at c.args.nf c.args.nv (take (3 * c.args.nv - 0) c.limit.new.out)) (count 0 c.args.nv)) t
-            ∙ last-normals c.args.levels c.args.indices.now c.args.coords.now c.args.nf c.args.nv c.requires.planned w c.requires.held.words _ (read c.before.before.before.before.before.before.before.before)); out = c.copy_words.ensures ∙ ap (λ (zs : List ℕ). sets c.args.out.now 0 zs)
-            (lent_is w c.start-at.result (3 * c.args.nf) ∙ ap (λ (at : ℕ). part at (3 * c.args.nf) w) t ∙ last-faces single c.args.levels c.args.indices.now c.args.coords.now c.args.nf c.args.nv c.requires.planned w c.requires.held.words) }
+    let t = c.start-at.ensures in record {
+      positions = limited c.before.before.before.before.before.before.before.before;
+      normals = c.normals.ensures ∙ ap (λ (zs : List Float). sets c.args.normals.now 0 zs)
+          (ap (λ (at : ℕ). gather (normal_in w at c.args.nf c.args.nv (take (3 * c.args.nv - 0) c.limit.new.out)) (count 0 c.args.nv)) t
+          ∙ last-normals c.args.levels c.args.indices.now c.args.coords.now c.args.nf c.args.nv c.requires.planned w c.requires.held.words _ (read c.before.before.before.before.before.before.before.before));
+      out = c.copy_words.ensures ∙ ap (λ (zs : List ℕ). sets c.args.out.now 0 zs)
+          (lent_is w c.start-at.result (3 * c.args.nf) ∙ ap (λ (at : ℕ). part at (3 * c.args.nf) w) t ∙ last-faces single c.args.levels c.args.indices.now c.args.coords.now c.args.nf c.args.nv c.requires.planned w c.requires.held.words);
+    }

@@ -83,5 +83,8 @@ pub returns : goal.returns
 returns c = let l = c.loop-w in
     let xs = around c.args.indices.now (links c.args.indices.now) c.args.first in
     let z : l.w ≡ 0 = omega (arith, c.loop-w-test.false) in
-    let e = word_out xs l.n l.invariant.0 (sym l.invariant.1 ∙ z) in record { list = l.invariant.3 ∙ ap (λ (k : ℕ). sets c.args.list.now c.args.at (gather (stored c.args.levels c.args.out.now) (take k xs))) e
-          ∙ ap (λ (k : List ℕ). sets c.args.list.now c.args.at (gather (stored c.args.levels c.args.out.now) k)) (take-length xs); sides = e }
+    let e = word_out xs l.n l.invariant.0 (sym l.invariant.1 ∙ z) in record {
+      list = l.invariant.3 ∙ ap (λ (k : ℕ). sets c.args.list.now c.args.at (gather (stored c.args.levels c.args.out.now) (take k xs))) e
+          ∙ ap (λ (k : List ℕ). sets c.args.list.now c.args.at (gather (stored c.args.levels c.args.out.now) k)) (take-length xs);
+      sides = e;
+    }

@@ -28,15 +28,22 @@ front k =
     last-points k.args.levels k.args.sharp.now k.args.indices.now k.args.coords.now k.args.nf k.args.nv k.requires.planned.0 k.requires.planned.1 k.args.words.now k.args.work.now k.requires.held k.requires.room.0 k.requires.room.1.0 k.whole_front-xs.result.now k.whole_front-xs.ensures
 
 pub limit-requires : goal.limit-requires
-limit-requires c = let f = front c.before.before in record { mesh = rw c.start-at.ensures (last-movable c.args.levels c.args.sharp.now c.args.indices.now c.args.coords.now c.args.nf c.args.nv c.requires.planned.0 c.requires.planned.1 c.args.words.now c.args.work.now c.requires.held c.requires.room.0 c.requires.room.1.0); coords = (
-          rw f (omega (arith, last-long c.args.levels c.args.sharp.now c.args.indices.now c.args.coords.now c.args.nf c.args.nv c.requires.planned.0 c.requires.planned.1 c.args.words.now c.args.work.now c.requires.held c.requires.room.0 c.requires.room.1.0)),
-          rw f (near-sharp-at c.args.levels c.args.levels c.args.sharp.now c.args.indices.now c.args.coords.now c.requires.planned.1.passes).0,
-        ); room = c.requires.room.1.1.0 }
+limit-requires c = let f = front c.before.before in record {
+  mesh = rw c.start-at.ensures (last-movable c.args.levels c.args.sharp.now c.args.indices.now c.args.coords.now c.args.nf c.args.nv c.requires.planned.0 c.requires.planned.1 c.args.words.now c.args.work.now c.requires.held c.requires.room.0 c.requires.room.1.0);
+  coords = (
+    rw f (omega (arith, last-long c.args.levels c.args.sharp.now c.args.indices.now c.args.coords.now c.args.nf c.args.nv c.requires.planned.0 c.requires.planned.1 c.args.words.now c.args.work.now c.requires.held c.requires.room.0 c.requires.room.1.0)),
+    rw f (near-sharp-at c.args.levels c.args.levels c.args.sharp.now c.args.indices.now c.args.coords.now c.requires.planned.1.passes).0,
+  );
+  room = c.requires.room.1.1.0;
+}
 
 pub returns : goal.returns
 returns c = let w = c.args.words.now in
     let half = half_of c.args.nf c.args.nv in
-    let t = c.start-at.ensures in record { positions = c.limit.ensures ∙ ap (λ (zs : List ℤ). sets c.args.positions.now 0 zs)
+    let t = c.start-at.ensures in record {
+      positions = c.limit.ensures ∙ ap (λ (zs : List ℤ). sets c.args.positions.now 0 zs)
           (ap (λ (at : ℕ). sharp_limits whole (mesh_in w at c.args.nf c.args.nv) (links (part at (3 * c.args.nf) w)) (marks_in w (at + (half - c.args.nf)) c.args.nf) c.whole_front-xs.result.now) t
-          ∙ last-limits c.args.levels c.args.sharp.now c.args.indices.now c.args.coords.now c.args.nf c.args.nv c.requires.planned.0 c.requires.planned.1 c.args.words.now c.args.work.now c.requires.held c.requires.room.0 c.requires.room.1.0 c.whole_front-xs.result.now (front c.before.before.before.before)); out = c.copy_words.ensures ∙ ap (λ (zs : List ℕ). sets c.args.out.now 0 zs)
-          (lent_is w c.start-at.result (3 * c.args.nf) ∙ ap (λ (at : ℕ). part at (3 * c.args.nf) w) t ∙ last_out c.args.levels c.args.sharp.now c.args.indices.now c.args.coords.now c.args.nf c.args.nv c.requires.planned.0 c.requires.planned.1 c.args.words.now c.args.work.now c.requires.held c.requires.room.0 c.requires.room.1.0) }
+          ∙ last-limits c.args.levels c.args.sharp.now c.args.indices.now c.args.coords.now c.args.nf c.args.nv c.requires.planned.0 c.requires.planned.1 c.args.words.now c.args.work.now c.requires.held c.requires.room.0 c.requires.room.1.0 c.whole_front-xs.result.now (front c.before.before.before.before));
+      out = c.copy_words.ensures ∙ ap (λ (zs : List ℕ). sets c.args.out.now 0 zs)
+          (lent_is w c.start-at.result (3 * c.args.nf) ∙ ap (λ (at : ℕ). part at (3 * c.args.nf) w) t ∙ last_out c.args.levels c.args.sharp.now c.args.indices.now c.args.coords.now c.args.nf c.args.nv c.requires.planned.0 c.requires.planned.1 c.args.words.now c.args.work.now c.requires.held c.requires.room.0 c.requires.room.1.0);
+    }

@@ -73,5 +73,8 @@ shape_of-work c = let l = c.loop-i in l.invariant.work.long
 
 pub returns : goal.returns
 returns c = let l = c.loop-i in
-    let e : l.i ≡ c.args.levels = (let k = l.invariant.bound in omega arith) in record { held = subst (λ (i : ℕ). Held (sharp_last whole i c.args.sharp.now c.args.indices.now c.args.coords.now) i c.args.half c.args.third l.words l.work) e
-          (going-held c.args.levels c.args.sharp.now c.args.indices.now c.args.coords.now c.args.half c.args.third c.args.words.now c.args.work.now c.requires.cage c.requires.parts c.requires.room.0 c.requires.room.1 l.i l.nf l.nv l.words l.work l.invariant); kept = (l.invariant.words, l.invariant.work) }
+    let e : l.i ≡ c.args.levels = (let k = l.invariant.bound in omega arith) in record {
+      held = subst (λ (i : ℕ). Held (sharp_last whole i c.args.sharp.now c.args.indices.now c.args.coords.now) i c.args.half c.args.third l.words l.work) e
+          (going-held c.args.levels c.args.sharp.now c.args.indices.now c.args.coords.now c.args.half c.args.third c.args.words.now c.args.work.now c.requires.cage c.requires.parts c.requires.room.0 c.requires.room.1 l.i l.nf l.nv l.words l.work l.invariant);
+      kept = (l.invariant.words, l.invariant.work);
+    }

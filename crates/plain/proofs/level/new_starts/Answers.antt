@@ -76,18 +76,18 @@ loop-s-preserved c = let l = c.loop-s in
     let p = first_met (links (part a.at a.n w)) in
     let h : l.s < a.n = c.loop-s-test.true in
     elim c.if-first_met.branch [
-    then-first_met came ↦ (
-      let t : p l.s ≡ true = sym (test c.before) ∙ came.if-first_met.true in (
-      omega arith,
-      rw came.words-is (simp length-set l.invariant.1),
-      came.k-is ∙ omega (arith, l.invariant.2, kept-count start_of 1 (λ _. refl) p w a.to a.n l.s h t),
-      came.words-is ∙ rw came.in_fourth.ensures (met-more w a.at a.n r.room.0.room a.to l.s r.apart h l.words l.k l.invariant.3 l.invariant.2 t),
-    )
-    )
-    | else-first_met came ↦ (
-      let e = kept_same start_of 1 (λ _. refl) p w a.to a.n l.s h (sym (test c.before) ∙ came.if-first_met.false) in
-    (omega arith, rw came.words-is l.invariant.1, rw e (came.k-is ∙ l.invariant.2), rw e (came.words-is ∙ l.invariant.3))
-    )
+      | then-first_met came ↦ (
+          let t : p l.s ≡ true = sym (test c.before) ∙ came.if-first_met.true in (
+            omega arith,
+            rw came.words-is (simp length-set l.invariant.1),
+            came.k-is ∙ omega (arith, l.invariant.2, kept-count start_of 1 (λ _. refl) p w a.to a.n l.s h t),
+            came.words-is ∙ rw came.in_fourth.ensures (met-more w a.at a.n r.room.0.room a.to l.s r.apart h l.words l.k l.invariant.3 l.invariant.2 t),
+          )
+          )
+      | else-first_met came ↦ (
+          let e = kept_same start_of 1 (λ _. refl) p w a.to a.n l.s h (sym (test c.before) ∙ came.if-first_met.false) in
+          (omega arith, rw came.words-is l.invariant.1, rw e (came.k-is ∙ l.invariant.2), rw e (came.words-is ∙ l.invariant.3))
+          )
     ]
 
 pub returns : goal.returns

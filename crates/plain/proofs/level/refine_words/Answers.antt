@@ -69,11 +69,11 @@ new_starts-requires c = let a = c.args in
     let apart = apart-at w a.at a.to a.nf a.nv r in
     let e = length (firsts (links (part a.at (3 * a.nf) w))) in
     rw (is₃ c.before.before.before, list₃ w a.at a.to a.nf a.nv r) (
-      record {
-        room = (listed w a.at a.to a.nf a.nv r (w₃ w a.at a.to a.nf a.nv r) (simp length-sets), simp length-sets (omega (arith, r.new)));
-        apart = apart a.at (3 * a.nf) (a.to + 24 * a.nf + a.nv) e (omega arith) (omega arith) (omega arith) (omega arith);
-        small = omega (arith, r.small);
-      }
+    record {
+      room = (listed w a.at a.to a.nf a.nv r (w₃ w a.at a.to a.nf a.nv r) (simp length-sets), simp length-sets (omega (arith, r.new)));
+      apart = apart a.at (3 * a.nf) (a.to + 24 * a.nf + a.nv) e (omega arith) (omega arith) (omega arith) (omega arith);
+      small = omega (arith, r.small);
+    }
     )
 
 pub returns : goal.returns

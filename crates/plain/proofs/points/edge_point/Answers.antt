@@ -40,8 +40,11 @@ edge_rim-requires c = let a = c.args in
 
 pub returns-then-w-eq0 : goal.returns-then-w-eq0
 returns-then-w-eq0 c = let a = c.args in
-    let r = c.requires in record { point = edge-off a.words.now a.at a.marks a.nf a.nv r.mesh.0 a.s r.mesh.1 c.across-w.result c.across-w.ensures whole (part a.from (3 * a.nv) a.work.now) (lowered c.edge_rim.result) _ _ (corner-is a.words.now a.at a.marks a.nf a.nv r.mesh.0 a.s r.mesh.1) c.next_of.ensures
-          c.if-w-eq0.true (rw (lent_is a.work.now a.from (3 * a.nv)) at c.edge_rim.ensures.point); near = c.edge_rim.ensures.near }
+    let r = c.requires in record {
+      point = edge-off a.words.now a.at a.marks a.nf a.nv r.mesh.0 a.s r.mesh.1 c.across-w.result c.across-w.ensures whole (part a.from (3 * a.nv) a.work.now) (lowered c.edge_rim.result) _ _ (corner-is a.words.now a.at a.marks a.nf a.nv r.mesh.0 a.s r.mesh.1) c.next_of.ensures
+          c.if-w-eq0.true (rw (lent_is a.work.now a.from (3 * a.nv)) at c.edge_rim.ensures.point);
+      near = c.edge_rim.ensures.near;
+    }
 
 pub edge_rim-requires-then-mark : goal.edge_rim-requires-then-mark
 edge_rim-requires-then-mark c = let a = c.args in
@@ -54,8 +57,11 @@ edge_rim-requires-then-mark c = let a = c.args in
 
 pub returns-then-mark : goal.returns-then-mark
 returns-then-mark c = let a = c.args in
-    let r = c.requires in record { point = edge-sharp a.words.now a.at a.marks a.nf a.nv r.mesh.0 a.s r.mesh.1 c.across-w.result c.across-w.ensures whole (part a.from (3 * a.nv) a.work.now) (lowered c.edge_rim-then-mark.result) _ _ (corner-is a.words.now a.at a.marks a.nf a.nv r.mesh.0 a.s r.mesh.1) c.next_of.ensures
-          (mark-at a.words.now a.marks a.nf a.s r.mesh.1 ∙ sym c.mark.ensures ∙ c.if-mark.true) (rw (lent_is a.work.now a.from (3 * a.nv)) at c.edge_rim-then-mark.ensures.point); near = c.edge_rim-then-mark.ensures.near }
+    let r = c.requires in record {
+      point = edge-sharp a.words.now a.at a.marks a.nf a.nv r.mesh.0 a.s r.mesh.1 c.across-w.result c.across-w.ensures whole (part a.from (3 * a.nv) a.work.now) (lowered c.edge_rim-then-mark.result) _ _ (corner-is a.words.now a.at a.marks a.nf a.nv r.mesh.0 a.s r.mesh.1) c.next_of.ensures
+          (mark-at a.words.now a.marks a.nf a.s r.mesh.1 ∙ sym c.mark.ensures ∙ c.if-mark.true) (rw (lent_is a.work.now a.from (3 * a.nv)) at c.edge_rim-then-mark.ensures.point);
+      near = c.edge_rim-then-mark.ensures.near;
+    }
 
 pub far_of-requires : goal.far_of-requires
 far_of-requires c = let a = c.args in
@@ -79,20 +85,23 @@ edge_inner-requires c = let a = c.args in
     let y = c.across-w.result in
     let t = across-below a.words.now a.at a.marks a.nf a.nv r.mesh.0 a.s r.mesh.1 c.across-w.result c.across-w.ensures c.if-w-eq0.false in
     rw (lent_is a.work.now a.from (3 * a.nv)) (
-      record {
-        readable = (
+    record {
+      readable = (
         readable l r.near (rw (corner-is a.words.now a.at a.marks a.nf a.nv r.mesh.0 a.s r.mesh.1) (corner-small a.words.now a.at a.marks a.nf a.nv r.mesh.0 a.s r.mesh.1)),
         readable l r.near (rw c.next_of.ensures (corner-small a.words.now a.at a.marks a.nf a.nv r.mesh.0 (onward a.s) (on_below a.s a.nf r.mesh.1))),
       );
-        readable_2 = (
+      readable_2 = (
         readable l r.near (rw c.far_of.ensures (corner-small a.words.now a.at a.marks a.nf a.nv r.mesh.0 (backward a.s) (back_below a.s a.nf r.mesh.1))),
         readable l r.near (rw c.far_of-2.ensures (corner-small a.words.now a.at a.marks a.nf a.nv r.mesh.0 (backward (y - 1)) (back_below (y - 1) a.nf t))),
       );
-      }
+    }
     )
 
 pub returns : goal.returns
 returns c = let a = c.args in
-    let r = c.requires in record { point = edge-smooth a.words.now a.at a.marks a.nf a.nv r.mesh.0 a.s r.mesh.1 c.across-w.result c.across-w.ensures whole (part a.from (3 * a.nv) a.work.now) (lowered c.edge_inner.result) _ _ (corner-is a.words.now a.at a.marks a.nf a.nv r.mesh.0 a.s r.mesh.1) c.next_of.ensures
+    let r = c.requires in record {
+      point = edge-smooth a.words.now a.at a.marks a.nf a.nv r.mesh.0 a.s r.mesh.1 c.across-w.result c.across-w.ensures whole (part a.from (3 * a.nv) a.work.now) (lowered c.edge_inner.result) _ _ (corner-is a.words.now a.at a.marks a.nf a.nv r.mesh.0 a.s r.mesh.1) c.next_of.ensures
           c.if-w-eq0.false (mark-at a.words.now a.marks a.nf a.s r.mesh.1 ∙ sym c.mark.ensures ∙ c.if-mark.false) _ _ c.far_of.ensures c.far_of-2.ensures
-          (rw (lent_is a.work.now a.from (3 * a.nv)) at c.edge_inner.ensures.point); near = c.edge_inner.ensures.near }
+          (rw (lent_is a.work.now a.from (3 * a.nv)) at c.edge_inner.ensures.point);
+      near = c.edge_inner.ensures.near;
+    }

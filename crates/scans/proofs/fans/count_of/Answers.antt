@@ -24,15 +24,17 @@ overflow_add-k c = let l = c.loop-t in
 pub loop-t-preserved : goal.loop-t-preserved
 loop-t-preserved c = let a = c.args in
     let l = c.loop-t in
-    let p : ℕ → Bool = λ s. eqb a.u (get_or a.indices.now s 0) in
-    (omega (arith, c.loop-t-test.true), elim c.if-u-indices.branch [
-    then-u-indices came ↦ (
-      came.k-is ∙ ap (λ (z : ℕ). z + 1) l.invariant.1 ∙ tally-one p l.t (eq-eqb _ _ came.if-u-indices.true)
+    let p : ℕ → Bool = λ s. eqb a.u (get_or a.indices.now s 0) in (
+      omega (arith, c.loop-t-test.true),
+      elim c.if-u-indices.branch [
+        | then-u-indices came ↦ (
+            came.k-is ∙ ap (λ (z : ℕ). z + 1) l.invariant.1 ∙ tally-one p l.t (eq-eqb _ _ came.if-u-indices.true)
+            )
+        | else-u-indices came ↦ (
+            came.k-is ∙ l.invariant.1 ∙ tally-stays p l.t (ne_eqb _ _ came.if-u-indices.false)
+            )
+      ],
     )
-    | else-u-indices came ↦ (
-      came.k-is ∙ l.invariant.1 ∙ tally-stays p l.t (ne_eqb _ _ came.if-u-indices.false)
-    )
-    ])
 
 pub returns : goal.returns
 returns c = let a = c.args in

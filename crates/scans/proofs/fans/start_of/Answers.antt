@@ -19,15 +19,17 @@ loop-t-init c = (omega arith, refl)
 pub loop-t-preserved : goal.loop-t-preserved
 loop-t-preserved c = let a = c.args in
     let l = c.loop-t in
-    let p : ℕ → Bool = λ s. eqb (corner a.indices.now s) a.u in
-    (omega (arith, c.loop-t-test.true), elim c.if-indices-t.branch [
-    then-indices-t came ↦ (
-      came.last-is ∙ last-here p l.t (eq-eqb _ _ came.if-indices-t.true)
+    let p : ℕ → Bool = λ s. eqb (corner a.indices.now s) a.u in (
+      omega (arith, c.loop-t-test.true),
+      elim c.if-indices-t.branch [
+        | then-indices-t came ↦ (
+            came.last-is ∙ last-here p l.t (eq-eqb _ _ came.if-indices-t.true)
+            )
+        | else-indices-t came ↦ (
+            came.last-is ∙ l.invariant.1 ∙ last-same p l.t (ne_eqb _ _ came.if-indices-t.false)
+            )
+      ],
     )
-    | else-indices-t came ↦ (
-      came.last-is ∙ l.invariant.1 ∙ last-same p l.t (ne_eqb _ _ came.if-indices-t.false)
-    )
-    ])
 
 pub returns : goal.returns
 returns c = let a = c.args in

@@ -30,13 +30,13 @@ loop-s-preserved c = let a = c.args in
     let e = sym c.on_rim.ensures in (
       omega (arith, c.loop-s-test.true),
       elim c.if-on_rim.branch [
-    then-on_rim came ↦ (
-      came.k-is ∙ ap (λ (z : ℕ). z + 1) l.invariant.1 ∙ tally-one p l.s (e ∙ came.if-on_rim.true)
-    )
-    | else-on_rim came ↦ (
-      came.k-is ∙ l.invariant.1 ∙ tally-stays p l.s (e ∙ came.if-on_rim.false)
-    )
-    ],
+        | then-on_rim came ↦ (
+            came.k-is ∙ ap (λ (z : ℕ). z + 1) l.invariant.1 ∙ tally-one p l.s (e ∙ came.if-on_rim.true)
+            )
+        | else-on_rim came ↦ (
+            came.k-is ∙ l.invariant.1 ∙ tally-stays p l.s (e ∙ came.if-on_rim.false)
+            )
+      ],
     )
 
 pub returns : goal.returns

@@ -43,9 +43,12 @@ returns c = let a = c.args in
     let e = c.new-rule.ensures in
     let d = c.all.result in
     let f = c.all.ensures in
-    let few = rw (sym f) at (shares-few w (length vs) (all c.before.before.before.before.before)) in record { point = record {
+    let few = rw (sym f) at (shares-few w (length vs) (all c.before.before.before.before.before)) in record {
+      point = record {
         bounded = record { above = few.0; few = omega (arith, few.1); x = omega (arith, f, c.weighted.ensures.1); y = omega (arith, f, c.weighted-2.ensures.1); z = omega (arith, f, c.weighted-3.ensures.1) };
         x = by-rule a.xs.now r.0 0 p a.rim a.u vs r.1.1.0 w d c.weighted.result e f c.weighted.ensures.0;
         y = by-rule a.xs.now r.0 1 p a.rim a.u vs r.1.1.0 w d c.weighted-2.result e f c.weighted-2.ensures.0;
         z = by-rule a.xs.now r.0 2 p a.rim a.u vs r.1.1.0 w d c.weighted-3.result e f c.weighted-3.ensures.0;
-      }; den = record { few = few.1; eighth = λ q. subst (λ (k : ℕ). 8 * (k / 8) ≡ k) (sym (f ∙ ap all_of e)) (eighth-of p a.rim (length vs) q) } }
+      };
+      den = record { few = few.1; eighth = λ q. subst (λ (k : ℕ). 8 * (k / 8) ≡ k) (sym (f ∙ ap all_of e)) (eighth-of p a.rim (length vs) q) };
+    }

@@ -45,6 +45,9 @@ ring_over-requires c = (c.requires.coords.1, old-whole c.args.words.now c.args.a
 pub returns : goal.returns
 returns c = let o = c.one_ring-ring.new.out in
     let x = c.one_ring-ring.result in
-    let f = by_ring exact (staged c.args.stage) (map of_whole c.args.xs.now) c.args.u x.rim (take x.n o) in record { point = stands-in c.ring_over.result f _
+    let f = by_ring exact (staged c.args.stage) (map of_whole c.args.xs.now) c.args.u x.rim (take x.n o) in record {
+      point = stands-in c.ring_over.result f _
           (moved-is c.args.words.now c.args.at c.args.nf c.args.nv c.requires.mesh.0 c.args.u c.requires.mesh.1 x c.one_ring-ring.ensures.ring (replicate most_valence 0) o (omega arith) c.one_ring-ring.ensures.out exact (staged c.args.stage) (map of_whole c.args.xs.now) (three exact f) refl)
-          c.ring_over.ensures.point; den = c.ring_over.ensures.den }
+          c.ring_over.ensures.point;
+      den = c.ring_over.ensures.den;
+    }

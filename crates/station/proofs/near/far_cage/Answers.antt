@@ -21,11 +21,11 @@ too_far-requires c = let a = c.args in
     let e = c.requires.cage.0 in
     let z = cage-sizes a.levels fs xs e in
     rw c.load_words.ensures (
-      record {
-        mesh = cage-movable a.levels fs xs e (replicate 28672 0) (omega (arith, z.0, z.2, z.3));
-        coords = (omega (arith, z.1), near-cage a.levels fs xs e);
-        claim = cage-claimed a.levels fs xs e (replicate 28672 0) (omega (arith, z.0, z.2, z.3)) a.levels (length a.ys.now) c.requires.cage.1 c.requires.claim;
-      }
+    record {
+      mesh = cage-movable a.levels fs xs e (replicate 28672 0) (omega (arith, z.0, z.2, z.3));
+      coords = (omega (arith, z.1), near-cage a.levels fs xs e);
+      claim = cage-claimed a.levels fs xs e (replicate 28672 0) (omega (arith, z.0, z.2, z.3)) a.levels (length a.ys.now) c.requires.cage.1 c.requires.claim;
+    }
     )
 
 pub returns : goal.returns

@@ -1,4 +1,3 @@
-use Rattle.std.proofs.Common.{rules}
 use Rattle.vectors.proofs.Vec3.cross.Goals as goal
 
 pub returns : goal.returns

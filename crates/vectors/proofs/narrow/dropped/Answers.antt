@@ -1,7 +1,5 @@
-use Rattle.std.proofs.Common.{arith, rules}
+use Rattle.std.proofs.Common.{arith}
 use Rattle.vectors.proofs.Drop.{half_pos, half_le, dropped-is}
-use Rattle.vectors.proofs.narrow.dropped.Reads as reads
-use Rattle.vectors.proofs.narrow.dropped.Lts as lts
 use Rattle.vectors.proofs.narrow.dropped.Goals as goal
 
 pub overflow_sub-result : goal.overflow_sub-result

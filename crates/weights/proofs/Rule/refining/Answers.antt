@@ -1,4 +1,3 @@
-use borrow.Author.Rules.{rules}
 use Rattle.weights.proofs.Floats.{eighth}
 use Rattle.weights.proofs.Rule.refining.Goals as goal
 

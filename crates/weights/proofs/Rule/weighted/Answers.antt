@@ -1,5 +1,4 @@
 use mathlib.Core.Path.{sym, ap, ◌∙◌}
-use borrow.Author.Rules.{rules}
 use Rattle.weights.specs.declared.Rule.{Rule}
 use Rattle.weights.specs.Lent.{weighted_point}
 use Rattle.weights.proofs.Rule.weighted.Goals as goal

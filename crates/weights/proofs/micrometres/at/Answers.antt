@@ -1,5 +1,4 @@
 use native.Mathlib.Omega.{arith}
-use borrow.Author.Rules.{rules}
 use Rattle.whole.proofs.Sums.{lower-raise}
 use Rattle.weights.proofs.micrometres.at.Goals as goal
 

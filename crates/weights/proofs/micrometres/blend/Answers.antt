@@ -1,7 +1,6 @@
 use Prim.Native.Nat.{ℕ}
 use mathlib.Core.Path.{ap, ◌∙◌}
 use native.Mathlib.Omega.{arith}
-use borrow.Author.Rules.{rules}
 use Rattle.whole.specs.Whole.{nearest, raise, lower}
 use Rattle.weights.proofs.Means.{blend_is}
 use Rattle.weights.proofs.micrometres.blend.Goals as goal

@@ -1,4 +1,3 @@
-use borrow.Author.Rules.{rules}
 use Rattle.weights.proofs.micrometres.blend3.Goals as goal
 
 pub returns : goal.returns

@@ -1,10 +1,9 @@
-use mathlib.Core.Path.{◌≡◌, sym, ap, ◌∙◌}
+use mathlib.Core.Path.{sym, ap, ◌∙◌}
 use mathlib.Core.List.{List}
 use Prim.Native.Nat.{ℕ, ◌+◌, ◌-◌, ◌<◌}
 use native.Mathlib.Omega.{arith}
 use lib.ListN.{length, get_or}
 use lib.IntN.{ℤ}
-use borrow.Author.Rules.{rules}
 use Rattle.whole.proofs.Sums.{raised-add, raised-zero, raised-as, lower-is}
 use Rattle.rules.specs.Position.{whole}
 use Rattle.rules.specs.Levels.{ends, coord}

@@ -1,5 +1,4 @@
 use lib.Dec.{lit<}
-use borrow.Author.Rules.{rules}
 use Rattle.weights.proofs.Means.{readable-ends}
 use Rattle.weights.proofs.micrometres.edge_inner.Goals as goal
 

@@ -1,5 +1,4 @@
 use native.Mathlib.Omega.{arith}
-use borrow.Author.Rules.{rules}
 use Rattle.whole.proofs.Sums.{raised-add}
 use Rattle.weights.proofs.Means.{raised_of, once, mean-is}
 use Rattle.weights.proofs.micrometres.half.Goals as goal

@@ -1,7 +1,6 @@
 use Prim.Native.Nat.{ℕ}
 use mathlib.Core.Path.{sym, ap}
 use borrow.Author.Tests.{ne_eqb}
-use borrow.Author.Rules.{rules}
 use Rattle.rules.specs.Position.{limit, ring_rule}
 use Rattle.weights.specs.Lent.{share_of}
 use Rattle.weights.proofs.micrometres.loop_gamma.Goals as goal

@@ -1,13 +1,11 @@
 use mathlib.Core.Path.{refl}
 use Prim.Native.Nat.{◌+◌, ◌*◌, ◌≤◌}
 use native.Mathlib.Omega.{arith}
-use borrow.Author.Rules.{rules}
 use Rattle.whole.specs.Whole.{reach}
 use Rattle.weights.specs.Lent.{own}
 use Rattle.weights.proofs.Means.{blend-fits}
 use Rattle.weights.proofs.micrometres.mix.Lts
 use Rattle.weights.proofs.micrometres.mix.Reads
-use Rattle.weights.proofs.micrometres.mix.Tie
 use Rattle.weights.proofs.micrometres.mix.Goals as goal
 
 abbrev Start : Type 0

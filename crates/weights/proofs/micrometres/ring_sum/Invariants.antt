@@ -1,16 +1,7 @@
-use mathlib.Core.Path.{◌≡◌}
-use mathlib.Core.List.{List}
-use Prim.Native.Nat.{ℕ, ◌≤◌, ◌<◌, ◌-◌}
-use native.Mathlib.Omega.{arith}
+use Prim.Native.Nat.{◌≤◌, ◌-◌}
 use lib.ListN.{length, take}
-use lib.Seq.{take_all}
-use lib.IntN.{ℤ}
-use borrow.Author.Rules.{rules}
-use Rattle.whole.proofs.Sums.{Raised, raised-zero, lower-is}
-use Rattle.rules.specs.Position.{whole}
-use Rattle.rules.specs.Levels.{coord}
-use Rattle.weights.specs.Lent.{Stands, sum_of}
-use Rattle.weights.proofs.Means.{raised_of, raised-more}
+use Rattle.whole.proofs.Sums.{Raised}
+use Rattle.weights.specs.Lent.{sum_of}
 use Rattle.weights.proofs.micrometres.ring_sum.Given as goal
 
 abbrev pub invariant-loop-i : goal.invariant-loop-i

@@ -1,4 +1,3 @@
-use borrow.Author.Rules.{rules}
 use Rattle.weights.proofs.points.edge_inner.Goals as goal
 
 pub returns : goal.returns

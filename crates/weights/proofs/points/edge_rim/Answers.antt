@@ -1,4 +1,3 @@
-use borrow.Author.Rules.{rules}
 use Rattle.weights.proofs.points.edge_rim.Goals as goal
 
 pub returns : goal.returns

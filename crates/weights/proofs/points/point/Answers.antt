@@ -1,5 +1,4 @@
 use lib.Ieee.{nan}
-use borrow.Author.Rules.{rules}
 use Rattle.weights.proofs.Gathered.{point-is}
 use Rattle.weights.proofs.points.point.Goals as goal
 

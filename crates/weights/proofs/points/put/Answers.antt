@@ -1,6 +1,5 @@
 use native.Mathlib.Omega.{arith}
 use lib.ListN.{length-set}
-use borrow.Author.Rules.{rules}
 use Rattle.lists.proofs.Stores.{sets-three}
 use Rattle.weights.proofs.points.put.Goals as goal
 

@@ -1,11 +1,6 @@
-use mathlib.Core.Path.{◌≡◌, refl}
-use mathlib.Core.List.{map}
-use Prim.Native.Nat.{◌≤◌, ◌-◌}
+use mathlib.Core.Path.{refl}
 use native.Mathlib.Omega.{arith}
-use lib.ListN.{length, take}
-use lib.Seq.{sets}
 use borrow.Author.Rules.{rules}
-use Rattle.weights.specs.Lent.{point_at}
 use Rattle.weights.proofs.Gathered.{fill_more, fill-all}
 use Rattle.weights.proofs.points.ring_points.Goals as goal
 

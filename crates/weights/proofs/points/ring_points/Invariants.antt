@@ -1,12 +1,9 @@
-use mathlib.Core.Path.{◌≡◌, refl}
+use mathlib.Core.Path.{◌≡◌}
 use mathlib.Core.List.{map}
 use Prim.Native.Nat.{◌≤◌, ◌-◌}
-use native.Mathlib.Omega.{arith}
 use lib.ListN.{length, take}
 use lib.Seq.{sets}
-use borrow.Author.Rules.{rules}
 use Rattle.weights.specs.Lent.{point_at}
-use Rattle.weights.proofs.Gathered.{fill_more, fill-all}
 use Rattle.weights.proofs.points.ring_points.Given as goal
 
 abbrev pub invariant-loop-i : goal.invariant-loop-i

@@ -1,5 +1,4 @@
 use mathlib.Core.Path.{ap, ◌∙◌}
-use borrow.Author.Rules.{rules}
 use Rattle.weights.specs.declared.Rule.{Rule}
 use Rattle.weights.specs.Weights.{staged}
 use Rattle.weights.specs.Lent.{listed, weighted_point}

@@ -1,5 +1,4 @@
 use mathlib.Core.Path.{sym, ap, ◌∙◌}
-use borrow.Author.Rules.{rules}
 use Rattle.weights.specs.declared.Stage.{Stage}
 use Rattle.weights.specs.Weights.{staged, rule_of}
 use Rattle.weights.specs.Lent.{shared}

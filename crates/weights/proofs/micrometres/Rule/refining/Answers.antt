@@ -1,5 +1,4 @@
 use mathlib.Core.Path.{refl}
-use borrow.Author.Rules.{rules}
 use Rattle.weights.proofs.micrometres.Rule.refining.Goals as goal
 
 pub returns-then-rim : goal.returns-then-rim

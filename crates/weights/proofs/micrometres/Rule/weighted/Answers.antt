@@ -1,6 +1,5 @@
 use mathlib.Core.Path.{sym, subst, ap, ◌∙◌}
 use lib.ListN.{length}
-use borrow.Author.Rules.{rules}
 use Rattle.rules.specs.Position.{whole}
 use Rattle.rules.specs.Levels.{ends, three}
 use Rattle.weights.specs.declared.micrometres.Rule.{Rule}

@@ -1,4 +1,3 @@
-use borrow.Author.Rules.{rules}
 use Rattle.lists.proofs.Stores.{sets-three}
 use Rattle.whole.specs.Whole.{lower}
 use Rattle.weights.proofs.micrometres.Whole3.put.Goals as goal
