@@ -1,21 +1,20 @@
 -- What request 7 promises of the whole call, over its definitions alone; and of request 8, that it tells no 11.
-use Prim.Native.Nat.{ℕ, ◌+◌, ◌-◌, ◌*◌, ◌≤◌}
-use mathlib.Core.Path.{◌≡◌, refl, sym, ap, ◌∙◌, subst}
+use Rattle.std.specs.Prelude.{Ok}
+use Prim.Native.Nat.{ℕ, ◌+◌, ◌*◌, ◌≤◌}
+use mathlib.Core.Path.{◌≡◌, refl, sym, ap, ◌∙◌}
 use mathlib.Core.Logic.{◌≢◌}
 use mathlib.Core.Bool.{Bool, true, false}
-use mathlib.Core.List.{List, [], ◌∷◌, ◌++◌, append_assoc}
+use mathlib.Core.List.{List, [], ◌∷◌, ◌++◌}
 use native.Mathlib.Omega.{arith}
 use lib.IntN.{ℤ}
-use lib.ListN.{length, get_or, take, drop, length-append}
-use lib.Seq.{sets, sets-eq, take_at, drop_at, take-take, take-add, length-take-le, take-length, take-append-le}
+use lib.ListN.{length, get_or, take, drop}
+use lib.Seq.{sets, sets-eq, take_at, drop_at, take-take, take-length}
 use Rattle.lists.specs.Lists.{pick, part}
 use Rattle.lists.proofs.Stores.{drop-after}
 use Rattle.rules.specs.Position.{whole}
 use Rattle.rules.specs.Levels.{positions as positions_of}
 use Rattle.rules.specs.Answers.{answer}
 use Rattle.rules.specs.declared.Counts.{Counts}
-use Rattle.rules.specs.declared.Outcome.{Outcome}
-use Rattle.rules.specs.declared.Outcome.TheVariants.{Success}
 use Rattle.rules.specs.Calls.{Lent, Buffers, whole_room, sheet_last}
 use Rattle.rules.proofs.Ends.{sheet-never-eleven}
 use Rattle.alphabet.specs.Sheets.{Done, room_of, alone, answered, next, all_of, cut, nothing, bad_batch, number, done, Left, SheetsCall}
@@ -83,7 +82,7 @@ module _ (t : Buffers ℤ) (before : List (List ℕ)) (b : List ℕ) (after : Li
   unfolding alone
   slot-never-eleven = rw slot-by-itself (sheet-never-eleven (whole_room (room_of then)) b)
 
-  pub output-by-itself : (c : Counts) → answered then b ≡ Success c →
+  pub output-by-itself : (c : Counts) → answered then b ≡ Ok c →
       (part then.positions (3 * c.vertices) end.room.positions ≡ positions_of whole (sheet_last b)) × (part then.indices (3 * c.faces) end.room.indices ≡ (sheet_last b).mesh.faces)
   output-by-itself c s =
       let o = output-here then b after fits c s in

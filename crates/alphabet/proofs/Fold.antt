@@ -1,21 +1,20 @@
 -- What holds of sheets done one after the other: no later sheet touches what an earlier one left, and what was not taken is as it was.
+use Rattle.std.specs.Prelude.{Err, Ok}
 use Prim.Native.Nat.{ℕ, ◌+◌, ◌-◌, ◌*◌, ◌≤◌}
 use mathlib.Core.Path.{◌≡◌, refl, sym, ap, ◌∙◌, subst}
-use mathlib.Core.Bool.{true, false}
-use mathlib.Core.List.{List, [], ◌∷◌, ◌++◌, append_assoc}
+use mathlib.Core.List.{List, [], ◌∷◌, ◌++◌}
 use native.Mathlib.Omega.{arith}
-use lib.IntN.{ℤ, pos}
+use lib.IntN.{ℤ}
 use lib.ListN.{length, take, drop, length-drop, length-append, take-append-drop}
-use lib.Seq.{sets, length-sets, take_at, drop_at, drop-drop, take-take, take-add, length-take-le}
-use Rattle.lists.specs.Lists.{pick, part}
+use lib.Seq.{length-sets, take_at, drop_at, drop-drop, take-take, take-add, length-take-le}
+use Rattle.lists.specs.Lists.{part}
 use Rattle.lists.proofs.Stores.{drop-after, part_of}
 use Rattle.rules.specs.Position.{whole}
 use Rattle.rules.specs.Levels.{positions as positions_of}
 use Rattle.rules.specs.Answers.{answer, written}
 use Rattle.rules.specs.declared.Counts.{Counts}
 use Rattle.rules.specs.declared.Refusal.{Refusal}
-use Rattle.rules.specs.declared.Outcome.{Outcome}
-use Rattle.rules.specs.declared.Outcome.TheVariants.{Success, Refused}
+use Rattle.rules.specs.Outcome.{Outcome}
 use Rattle.rules.specs.Calls.{Buffers, sheet_last}
 use Rattle.sheet.proofs.Calls.{done as done-sheet}
 use Rattle.alphabet.specs.Sheets.{alone, leaves, Done, room_of, answered, next, all_of, nothing, taken, taken_indices}
@@ -37,8 +36,8 @@ module _ {A : Type 0} (p : ℕ) (l u : List A) (h : p ≤ length l) where
   long e = length-append (take p l) u ∙ omega (arith, length-take-le p l h, length-drop p l)
 
 length-written : {A : Type 0} (r : Outcome) (x old : List A) → length (written r x old) ≡ length old
-length-written (Success c) x old = length-sets old 0 x
-length-written (Refused r) x old = refl
+length-written (Ok c) x old = length-sets old 0 x
+length-written (Err r) x old = refl
 
 -- ---- one sheet: what it does not take is as it was, and what it takes is its output
 
@@ -47,8 +46,8 @@ module _ (t : Buffers ℤ) (b : List ℕ) where
       (drop (taken r) (written r (positions_of whole (sheet_last b)) t.positions) ≡ drop (taken r) t.positions)
       × (drop (taken_indices r) (written r (sheet_last b).mesh.faces t.indices) ≡ drop (taken_indices r) t.indices)
   unfolding alone
-  not_taken (Refused r) e = (refl, refl)
-  not_taken (Success c) e =
+  not_taken (Err r) e = (refl, refl)
+  not_taken (Ok c) e =
       let k = done-sheet _ b c (sym e) in
       let x : 0 + length (positions_of whole (sheet_last b)) ≤ 3 * c.vertices = omega (arith, k.positions) in
       let y : 0 + length (sheet_last b).mesh.faces ≤ 3 * c.faces = omega (arith, k.faces) in
@@ -109,12 +108,12 @@ module _ (d : Done) (b : List ℕ) (h : Fits d) where
   told-long = ap length told-next ∙ length-append d.told (answer (answered d b)) ∙ ap (λ (n : ℕ). length d.told + n) (five (answered d b))
 
   -- a success leaves its own output at the front of its room
-  pub own-output : (c : Counts) → answered d b ≡ Success c →
+  pub own-output : (c : Counts) → answered d b ≡ Ok c →
       (part d.positions (3 * c.vertices) (next d b).room.positions ≡ positions_of whole (sheet_last b)) × (part d.indices (3 * c.faces) (next d b).room.indices ≡ (sheet_last b).mesh.faces)
   unfolding next leaves alone
   own-output c e =
       let k = done-sheet _ b c e in
-      let w = takes d.room d.positions d.indices b (Success c) (sym e) h.positions h.indices in
+      let w = takes d.room d.positions d.indices b (Ok c) (sym e) h.positions h.indices in
       let ps = drop d.positions d.room.positions in
       let is = drop d.indices d.room.indices in
       let m : 0 + 3 * c.vertices ≤ length ps = omega (arith, w.0, length-drop d.positions d.room.positions) in
@@ -125,13 +124,13 @@ module _ (d : Done) (b : List ℕ) (h : Fits d) where
             ∙ part_of (sheet_last b).mesh.faces is 0 (3 * c.faces) k.faces n,
       )
 
-  pub taken_then : (c : Counts) → answered d b ≡ Success c → ((next d b).positions ≡ d.positions + 3 * c.vertices) × ((next d b).indices ≡ d.indices + 3 * c.faces)
+  pub taken_then : (c : Counts) → answered d b ≡ Ok c → ((next d b).positions ≡ d.positions + 3 * c.vertices) × ((next d b).indices ≡ d.indices + 3 * c.faces)
   unfolding next
   taken_then c e = (ap (λ (r : Outcome). d.positions + taken r) e, ap (λ (r : Outcome). d.indices + taken_indices r) e)
 
 -- "A refused sheet takes no room": all but what is told stays
-pub refused-takes-none : (d : Done) (b : List ℕ) (r : Refusal) → answered d b ≡ Refused r →
-    next d b ≡ record { positions = d.positions; indices = d.indices; told = d.told ++ answer (Refused r); room = d.room }
+pub refused-takes-none : (d : Done) (b : List ℕ) (r : Refusal) → answered d b ≡ Err r →
+    next d b ≡ record { positions = d.positions; indices = d.indices; told = d.told ++ answer (Err r); room = d.room }
 unfolding next leaves
 refused-takes-none d b r e =
     let p : d.positions + 0 ≡ d.positions = omega arith in
@@ -212,7 +211,7 @@ part_same : {A : Type 0} (p n : ℕ) (x y : List A) → p ≤ length x → p ≤
 part_same p n x y h k e = sym (part-of-take p n x h) ∙ ap (drop p) e ∙ part-of-take p n y k
 
 -- no later sheet touches what a sheet leaves: its output at the end
-pub output-here : (d : Done) (b : List ℕ) (after : List (List ℕ)) → Fits d → (c : Counts) → answered d b ≡ Success c →
+pub output-here : (d : Done) (b : List ℕ) (after : List (List ℕ)) → Fits d → (c : Counts) → answered d b ≡ Ok c →
     (part d.positions (3 * c.vertices) (all_of (next d b) after).room.positions ≡ positions_of whole (sheet_last b)) × (part d.indices (3 * c.faces) (all_of (next d b) after).room.indices ≡ (sheet_last b).mesh.faces)
 output-here d b after h c s =
     let e = next d b in

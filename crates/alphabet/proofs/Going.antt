@@ -1,38 +1,36 @@
 -- One sheet more of the loop: what it leaves is what the definition has next.
-use Prim.Native.Nat.{ℕ, suc, ◌+◌, ◌-◌, ◌*◌, ◌≤◌, ◌<◌}
+use Rattle.std.specs.Prelude.{Err, Ok}
+use Prim.Native.Nat.{ℕ, suc, ◌+◌, ◌*◌, ◌≤◌, ◌<◌}
 use mathlib.Core.Path.{◌≡◌, refl, sym, ap, ◌∙◌}
-use mathlib.Core.List.{List, [], ◌∷◌, ◌++◌, append-nil}
+use mathlib.Core.List.{List, [], ◌∷◌, ◌++◌}
 use native.Mathlib.Omega.{arith}
-use native.Mathlib.Numerals.{add-one}
 use native.Mathlib.Nat.{zero-add}
-use lib.IntN.{ℤ, pos}
+use lib.IntN.{ℤ}
 use lib.ListN.{length, get_or, take, drop, length-drop, length-append}
 use lib.Seq.{sets, drop-cons, drop-drop, drop-length}
 use Rattle.lists.proofs.Stores.{sets-next}
 use Rattle.rules.specs.Answers.{answer}
-use Rattle.rules.specs.declared.Counts.{Counts}
-use Rattle.rules.specs.declared.Outcome.{Outcome}
-use Rattle.rules.specs.declared.Outcome.TheVariants.{Success, Refused}
+use Rattle.rules.specs.Outcome.{Outcome}
 use Rattle.loopsubdiv.proofs.Outcomes.{whole_room_lem}
 use Rattle.sheet.proofs.Calls.{done}
 use Rattle.rules.specs.Calls.{Buffers}
-use Rattle.alphabet.specs.Sheets.{alone, leaves, free, behind, One, Done, next, all_of, cut, total, nothing, taken, taken_indices, Left}
+use Rattle.alphabet.specs.Sheets.{alone, free, One, Done, next, all_of, cut, total, nothing, taken, taken_indices, Left}
 
 pub five : (r : Outcome) → length (answer r) ≡ 5
-five (Success c) = refl
-five (Refused r) = refl
+five (Ok c) = refl
+five (Err r) = refl
 
 -- read entry by entry
 pub each : (s : List ℕ) (r : Outcome) → s ≡ answer r → get_or s 0 0 ∷ get_or s 1 0 ∷ get_or s 2 0 ∷ get_or s 3 0 ∷ get_or s 4 0 ∷ [] ≡ answer r
-each s (Success c) e = rw e refl
-each s (Refused r) e = rw e refl
+each s (Ok c) e = rw e refl
+each s (Err r) e = rw e refl
 
 -- what a sheet takes is there
 pub takes : (t : Buffers ℤ) (p q : ℕ) (b : List ℕ) (r : Outcome) → r ≡ alone (free p q t) b → p ≤ length t.positions → q ≤ length t.indices
     → (p + taken r ≤ length t.positions) × (q + taken_indices r ≤ length t.indices)
 unfolding alone
-takes t p q b (Refused r) e h k = (omega arith, omega arith)
-takes t p q b (Success c) e h k =
+takes t p q b (Err r) e h k = (omega arith, omega arith)
+takes t p q b (Ok c) e h k =
     let d = done _ b c (sym e) in
     let w = whole_room_lem _ _ _ _ c d.room in
     (omega (arith, w.positions, length-drop p t.positions), omega (arith, w.indices, length-drop q t.indices))

@@ -1,5 +1,5 @@
 -- Request [7]: up to 64 sheets laid end to end, each done as by a call on it by itself with the room still free.
-use Rattle.std.specs.Prelude.{ℕ, ◌+◌, ◌*◌, ◌≡◌, Bool, not, ◌||◌, List, [], ◌∷◌, ◌++◌, eqb, ltb, ℤ, pos, length, take, drop}
+use Rattle.std.specs.Prelude.{ℕ, ◌+◌, ◌*◌, ◌≡◌, Bool, not, ◌||◌, List, [], ◌∷◌, ◌++◌, eqb, ltb, ℤ, pos, length, take, drop, Err, Ok}
 use Rattle.std.proofs.lemmas.List.Edits.{sets}
 use Rattle.lists.specs.Lists.{pick}
 use Rattle.rules.specs.Position.{whole}
@@ -7,8 +7,7 @@ use Rattle.rules.specs.Levels.{positions as positions_of}
 use Rattle.rules.specs.Answers.{answer, written, zeroed, three_each, corners, work_words, work_coords}
 use Rattle.rules.specs.Sheets.{sheet_outcome}
 use Rattle.rules.specs.Calls.{Lent, Buffers, whole_room, sheet_last}
-use Rattle.rules.specs.declared.Outcome.{Outcome}
-use Rattle.rules.specs.declared.Outcome.TheVariants.{Success, Refused}
+use Rattle.rules.specs.Outcome.{Outcome}
 
 abbrev pub four : List ℤ → List ℕ → List ℕ → List ℤ → Buffers ℤ
 four ps is ws cs = record { positions = ps; indices = is; words = ws; work = cs }
@@ -35,12 +34,12 @@ behind p q t u = four (take p t.positions ++ u.positions) (take q t.indices ++ u
 
 -- "A refused sheet takes no room"
 abbrev pub taken : Outcome → ℕ
-taken (Success c) = three_each c
-taken (Refused r) = 0
+taken (Ok c) = three_each c
+taken (Err r) = 0
 
 abbrev pub taken_indices : Outcome → ℕ
-taken_indices (Success c) = corners c
-taken_indices (Refused r) = 0
+taken_indices (Ok c) = corners c
+taken_indices (Err r) = 0
 
 -- ---- sheet after sheet: the positions and indices taken so far, the answers, and all buffers
 

@@ -6,7 +6,6 @@ ghost use Rattle.std.proofs.lemmas.List.Edits.{sets};
 ghost use Rattle.rules.specs.Answers.{answer};
 ghost use Rattle.rules.specs.Calls.{given, lent, buffers};
 ghost use Rattle.alphabet.specs.Sheets.{One, Left, SheetsCall, all_of, cut, total, nothing, wrong};
-ghost use Rattle.alphabet.specs.Sheets.{taken as taken_of, taken_indices as taken_indices_of};
 
 use rules::Outcome;
 
@@ -26,30 +25,6 @@ fn one(
     sheet::subdivide_sheet(bytes, &mut positions[p..], &mut out[q..], words, work)
 }
 
-fn taken(o: Outcome) -> usize
-    ensures { result ≡ taken_of o }
-{
-    match o {
-        Outcome::Success(c) => {
-            let v = c.vertices as usize;
-            3 * v
-        }
-        Outcome::Refused(_) => 0,
-    }
-}
-
-fn taken_indices(o: Outcome) -> usize
-    ensures { result ≡ taken_indices_of o }
-{
-    match o {
-        Outcome::Success(c) => {
-            let f = c.faces as usize;
-            3 * f
-        }
-        Outcome::Refused(_) => 0,
-    }
-}
-
 // An answer's five numbers, into the slot that starts at `at`.
 fn tell(o: Outcome, slots: &mut [u32], at: usize)
     requires { at + 5 ≤ length slots.old }
@@ -57,11 +32,7 @@ fn tell(o: Outcome, slots: &mut [u32], at: usize)
 {
     let mut told = [0u32; 5];
     rules::tell(o, &mut told);
-    slots[at] = told[0];
-    slots[at + 1] = told[1];
-    slots[at + 2] = told[2];
-    slots[at + 3] = told[3];
-    slots[at + 4] = told[4];
+    slots[at..at + 5].copy_from_slice(&told);
 }
 
 // Sheet after sheet: where its bytes begin, and how much room the sheets before it took.
@@ -80,23 +51,16 @@ fn run(
     let mut at = 0;
     let mut p = 0;
     let mut q = 0;
-    let mut i = 0;
-    while i < lengths.len() {
-        let n = lengths[i];
+    for (i, &n) in lengths.iter().enumerate() {
         let end = at + n as usize;
         let o = one(&bytes[at..end], positions, p, out, q, words, work);
         tell(o, slots, 5 * i);
-        p = p + taken(o);
-        q = q + taken_indices(o);
+        if let Ok(c) = o {
+            p += 3 * c.vertices as usize;
+            q += 3 * c.faces as usize;
+        }
         at = end;
-        i = i + 1;
     }
-}
-
-fn wide(n: u32) -> u64
-    ensures { (result ≡ n) × (result < 4294967296) }
-{
-    n as u64
 }
 
 // The lengths together, in 64 bits, where the sum of 64 cannot wrap.
@@ -105,10 +69,8 @@ fn added(lengths: &[u32]) -> u64
     ensures { result ≡ total (given lengths) }
 {
     let mut sum = 0;
-    let mut i = 0;
-    while i < lengths.len() {
-        sum = sum + wide(lengths[i]);
-        i = i + 1;
+    for &n in lengths {
+        sum += n as u64;
     }
     sum
 }
@@ -138,6 +100,7 @@ pub fn subdivide_sheets(
 ) -> u32
     ensures { SheetsCall (given bytes) (given lengths) (buffers positions out words work) (lent answers) result }
 {
+    // Stays: the number is what `SheetsCall` says and plates.h hands out; the theorems over it speak of 19 and 0.
     if refused(bytes.len(), lengths, answers.len()) {
         return 19;
     }

@@ -10,7 +10,7 @@ use lib.Dec.{T, eqb, ltb, eqb→eq}
 use lib.Ieee.Fits.{and_i, and_l, and_r, eq→eqb}
 use lib.ListN.{length, get_or, set, length-set, replicate}
 use lib.Seq.{sets, length-sets, get_or-set_same, get_or-set_other, ext_get_or}
-use borrow.Author.Tests.{eqb-true, eqb-false, eq-eqb, ne_eqb, lt-ltb, le-ltb, ltb-true, ltb-false}
+use borrow.Author.Tests.{eqb-true, eqb-false, eq-eqb, ne_eqb, lt-ltb, ltb-true, ltb-false}
 use Rattle.lists.specs.Lists.{pick, lowest}
 use Rattle.lists.proofs.Places.{lowest-is, lowest-all}
 use Rattle.lists.proofs.Stores.{get_or-outside, get_or-within}
@@ -20,7 +20,8 @@ use Rattle.rules.proofs.Sides.{on-back, back_on, on_below}
 use Rattle.rules.proofs.Refine.{back_below}
 use Rattle.faces.specs.Words.{coded}
 use Rattle.cage.specs.Chains.{last_below, leaves, Faces, Once, fresh_mark, lower_of, Marked, Met, Repeat, Least, Coming, runs}
-use Rattle.cage.specs.Fans.{place_or}
+use Rattle.std.specs.Prelude.{Some, None}
+use Rattle.cage.specs.Fans.{place_of}
 use Rattle.limits.proofs.Search.{passed, failed}
 use Rattle.cage.proofs.Chains.{last-le, last-is, last-after, last-at, last-nowhere, used-is}
 use Rattle.cage.proofs.Across.{true_of, false_of, link-word, length-words, coded-at}
@@ -55,19 +56,6 @@ own_of fs u m h = go (eqb m 0) refl (eqb (corner fs (m - 1)) u) refl
         let z = eqb-false m 0 e in
         record { is = fresh-own fs u m (omega arith) c; leaves = c }
     go false e false q = absurd (omega (arith, fresh-stale fs u m (eqb-false (corner fs (m - 1)) u q)))
-
-pub lower-is : (low m h : ℕ) → h < m → m - 1 < low → lower_of low m h ≡ m - 1
-lower-is low m h l k = rw (lt-ltb h m l, lt-ltb (m - 1) low k) refl
-
-pub lower_late : (low m h : ℕ) → low ≤ m - 1 → lower_of low m h ≡ low
-lower_late low m h l = go (ltb h m)
-  where
-    go : (b : Bool) → pick (b && ltb (m - 1) low) (m - 1) low ≡ low
-    go true = rw (le-ltb (m - 1) low l) refl
-    go false = refl
-
-pub lower-early : (low m h : ℕ) → m ≤ h → lower_of low m h ≡ low
-lower-early low m h l = rw (le-ltb h m l) refl
 
 pub lower-le : (low m h : ℕ) → lower_of low m h ≤ low
 lower-le low m h = go (ltb h m) (ltb (m - 1) low) refl
@@ -334,15 +322,6 @@ pub record Cleared (fs : List ℕ) (s low : ℕ) : Type 0 where
   pub each : (j : ℕ) → j < s → Least fs (corner fs j) 0 low
 
 module _ (fs : List ℕ) where
-  pub joined-none : (at : ℕ) (ws : List ℕ) → Joined fs at 0 ws ws
-  joined-none at ws = record { size = refl; here = λ o j k l b c. absurd (omega arith); rest = λ i n. refl }
-
-  pub cleared-none : (low : ℕ) → Cleared fs 0 low
-  cleared-none low = record { each = λ j l. absurd (omega arith) }
-
-  pub repeat-none : Repeat fs (length fs)
-  repeat-none = record { most = omega arith; used = λ h. absurd (omega arith) }
-
   -- a vertex that is met for the first time
   pub joined-more : (at s : ℕ) (ws₀ ws ws' : List ℕ) → Joined fs at s ws₀ ws → Coming fs at (corner fs s) 0 ws ws' → Joined fs at (s + 1) ws₀ ws'
   joined-more at s ws₀ ws ws' w n = record {
@@ -415,21 +394,15 @@ module _ (fs : List ℕ) where
               rw (back_on t) at (w.here o (onward t) (onward t) (third-on fs f t b) (third-on fs f t b) refl)
               ∙ sym (get_or-within ls ws₀ at t 0 (rw (length-words fs) b) (rw (length-words fs) room) ∙ coded-at fs t b)
 
-  pub cleared-all : (low : ℕ) → Repeat fs low → Cleared fs (length fs) low → low ≡ place_or (length fs) (lowest (used_before (sides fs)) (length fs))
-  cleared-all low r w = go (ltb low (length fs)) refl
-    where
-      before : (j : ℕ) → j < low → used_before (sides fs) j ≡ false
-      before j l = false_of _ (λ t.
-          let b : j < length fs = omega (arith, r.most) in
-          let e = earlier fs j b (true_of _ t) in
-          let g = (w.each e.at (omega (arith, e.below))).each e.at j (omega arith) e.below b refl (sym e.from) e.to in
-          omega arith)
+  clear-of : (low : ℕ) → Repeat fs low → Cleared fs (length fs) low → (j : ℕ) → j < low → used_before (sides fs) j ≡ false
+  clear-of low r w j l = false_of _ (λ t.
+      let b : j < length fs = omega (arith, r.most) in
+      let e = earlier fs j b (true_of _ t) in
+      let g = (w.each e.at (omega (arith, e.below))).each e.at j (omega arith) e.below b refl (sym e.from) e.to in
+      omega arith)
 
-      go : (x : Bool) → ltb low (length fs) ≡ x → low ≡ place_or (length fs) (lowest (used_before (sides fs)) (length fs))
-      go true e =
-          let l = ltb-true low (length fs) e in
-          sym (ap (place_or (length fs)) (lowest-is (used_before (sides fs)) (length fs) low l (passed _ (r.used l)) (λ j h. failed _ (before j h))))
-      go false e =
-          let l = ltb-false low (length fs) e in
-          let z : low ≡ length fs = omega (arith, r.most) in
-          z ∙ sym (ap (place_or (length fs)) (lowest-all (used_before (sides fs)) (length fs) (λ j h. failed _ (before j (omega arith)))))
+  pub cleared-some : (low : ℕ) → low < length fs → Repeat fs low → Cleared fs (length fs) low → Some low ≡ place_of (lowest (used_before (sides fs)) (length fs))
+  cleared-some low l r w = sym (ap place_of (lowest-is (used_before (sides fs)) (length fs) low l (passed _ (r.used l)) (λ j h. failed _ (clear-of low r w j h))))
+
+  pub cleared-all : (low : ℕ) → length fs ≤ low → Repeat fs low → Cleared fs (length fs) low → None ≡ place_of (lowest (used_before (sides fs)) (length fs))
+  cleared-all low l r w = sym (ap place_of (lowest-all (used_before (sides fs)) (length fs) (λ j h. failed _ (clear-of low r w j (omega arith)))))

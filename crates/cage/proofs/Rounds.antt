@@ -1,4 +1,5 @@
 -- Starts, corner counts and turns, from the chains and the link words.
+use Rattle.std.specs.Prelude.{Ok}
 use mathlib.Core.Path.{◌≡◌, refl, sym, ap, ◌∙◌}
 use Prim.Native.Nat.{ℕ, zero, suc, ◌+◌, ◌-◌, ◌*◌, ◌/◌, ◌%◌, ◌≤◌, ◌<◌}
 use native.Mathlib.Omega.{arith}
@@ -23,7 +24,6 @@ use Rattle.faces.specs.Rings.{turn_of, valence_of}
 use Rattle.cage.specs.Chains.{last_below, leaves, before, Heads}
 use Rattle.cage.specs.Fans.{Tallied, Used, short_of}
 use Rattle.limits.specs.Verdicts.{verdict_of}
-use Rattle.limits.specs.declared.Check.TheVariants.{Pass}
 use Rattle.limits.proofs.Search.{passes}
 use Rattle.cage.proofs.Chains.{found-last, eqb-sym}
 use Rattle.cage.proofs.Across.{link-coded}
@@ -136,7 +136,7 @@ unused-is fs u =
     none_below zero = refl
     none_below (suc n) = rw (lt-ltb 0 (suc n) (omega arith), ne_eqb (suc n) 0 (λ e. omega arith))
 
-pub used-of : (v : ℕ) (fs heads : List ℕ) → v ≤ length heads → Heads fs (length fs) heads → verdict_of (check 9 (lowest (λ u. not (found (find (eqb u) fs))) v)) ≡ Pass → Used v heads
+pub used-of : (v : ℕ) (fs heads : List ℕ) → v ≤ length heads → Heads fs (length fs) heads → verdict_of (check 9 (lowest (λ u. not (found (find (eqb u) fs))) v)) ≡ (Ok tt) → Used v heads
 used-of v fs heads h w e = record {
   room = h;
   each = λ u l.

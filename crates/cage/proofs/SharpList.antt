@@ -1,4 +1,5 @@
 -- Request 6: what check 18 says, and that a list which passes it leaves a cage that passes all else.
+use Rattle.std.specs.Prelude.{Ok}
 use mathlib.Core.Path.{◌≡◌, refl, sym, ap, ◌∙◌}
 use Prim.Native.Nat.{ℕ, suc, ◌/◌, ◌≤◌, ◌<◌, min}
 use native.Mathlib.Omega.{arith}
@@ -17,14 +18,12 @@ use Rattle.rules.specs.Refusals.{check, ◌or_else◌, refusal, shape_refusal, r
 use Rattle.rules.specs.Sharp.{unlinked, told, sharp_refusal, sharp_last}
 use Rattle.rules.specs.Answers.{counted, unless}
 use Rattle.rules.specs.declared.Refusal.{Refusal}
-use Rattle.rules.specs.declared.Outcome.TheVariants.{Success}
 use Rattle.rules.proofs.Sides.{length-links}
 use Rattle.rules.proofs.Sharp.{sharp-mesh}
 use Rattle.faces.specs.Words.{coded}
 use Rattle.limits.specs.Verdicts.{verdict_of}
 use Rattle.cage.specs.Fans.{Linked}
 use Rattle.cage.specs.Sizes.{cage_counts}
-use Rattle.limits.specs.declared.Check.TheVariants.{Pass}
 use Rattle.limits.proofs.Search.{at, passed, failed, find-nowhere}
 use Rattle.cage.proofs.Sizes.{counts_of_lem}
 
@@ -41,23 +40,16 @@ pub zero_word : (o : Option ℕ) → eqb (coded o) 0 ≡ not (found o)
 zero_word none = refl
 zero_word (some t) = ne_eqb (suc t) 0 (λ e. omega arith)
 
-pub zero-at : (fs ws : List ℕ) → Linked fs ws → (s : ℕ) → s < length fs → eqb (get_or ws s 0) 0 ≡ not (found (get_or (links fs) s none))
-zero-at fs ws p s h =
-    ap (λ (x : ℕ). eqb x 0)
-    (sym (get_or-take (length fs) ws s 0 h) ∙ ap (λ (l : List ℕ). get_or l s 0) p.words
-    ∙ get_d_map coded (links fs) s none 0 (rw (length-links fs) h))
-    ∙ zero_word (get_or (links fs) s none)
-
 -- ---- the search
 
 module _ (p : ℕ → Bool) (l : List ℕ) where
   pub told_here : (i : ℕ) → i < length l → p (get_or l i 0) ≡ true → ((j : ℕ) → j < i → p (get_or l j 0) ≡ false) → verdict_of (check 18 (told (find p l))) ≡ at 18 (min i 4294967295)
   told_here i h t b = rw (find-is p 0 l i (record { below = h; passes = passed _ t; before = λ j q. failed _ (b j q) })) refl
 
-  pub told-nowhere : ((j : ℕ) → j < length l → p (get_or l j 0) ≡ false) → verdict_of (check 18 (told (find p l))) ≡ Pass
+  pub told-nowhere : ((j : ℕ) → j < length l → p (get_or l j 0) ≡ false) → verdict_of (check 18 (told (find p l))) ≡ (Ok tt)
   told-nowhere b = go (find p l) (find-nowhere 18 p 0 l b)
     where
-      go : (o : Option ℕ) → verdict_of (check 18 o) ≡ Pass → verdict_of (check 18 (told o)) ≡ Pass
+      go : (o : Option ℕ) → verdict_of (check 18 o) ≡ (Ok tt) → verdict_of (check 18 (told o)) ≡ (Ok tt)
       go none e = refl
       go (some i) e = absurd (let z : ◌≡◌ {A = ℕ} 0 1 = cc in omega arith)
 
@@ -112,9 +104,9 @@ module _ (n : ℕ) (l fs : List ℕ) where
       untold none e = refl
       untold (some i) e = absurd (let z : ◌≡◌ {A = ℕ} 0 1 = cc in omega arith)
 
-  pub sharp-ahead : (xs : List whole.N) → unless (sharp_refusal whole n l fs xs) (Success (cage_counts n (length xs / 3) fs)) ≡ unless (sharp_refusal whole n l fs xs) (Success (counted (sharp_last whole n l fs xs).mesh))
+  pub sharp-ahead : (xs : List whole.N) → unless (sharp_refusal whole n l fs xs) (Ok (cage_counts n (length xs / 3) fs)) ≡ unless (sharp_refusal whole n l fs xs) (Ok (counted (sharp_last whole n l fs xs).mesh))
   sharp-ahead xs = go (sharp_refusal whole n l fs xs) refl
     where
-      go : (o : Option Refusal) → sharp_refusal whole n l fs xs ≡ o → unless o (Success (cage_counts n (length xs / 3) fs)) ≡ unless o (Success (counted (sharp_last whole n l fs xs).mesh))
-      go none e = ap Success (sym (ap counted (sharp-mesh whole n l fs xs) ∙ counts_of_lem whole n fs xs (sharp-passes xs e)))
+      go : (o : Option Refusal) → sharp_refusal whole n l fs xs ≡ o → unless o (Ok (cage_counts n (length xs / 3) fs)) ≡ unless o (Ok (counted (sharp_last whole n l fs xs).mesh))
+      go none e = ap Ok (sym (ap counted (sharp-mesh whole n l fs xs) ∙ counts_of_lem whole n fs xs (sharp-passes xs e)))
       go (some r) e = refl

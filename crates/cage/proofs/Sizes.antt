@@ -1,4 +1,5 @@
 -- The counts of a control cage, known ahead.
+use Rattle.std.specs.Prelude.{Ok}
 use mathlib.Core.Path.{◌≡◌, refl, sym, ap, ap₂, ◌∙◌}
 use Prim.Native.Nat.{ℕ, ◌+◌, ◌*◌, ◌/◌, ◌^◌}
 use native.Mathlib.Omega.{arith}
@@ -10,7 +11,6 @@ use Rattle.rules.specs.Levels.{Sizes, sizes, after, last}
 use Rattle.rules.specs.Position.{Numbers}
 use Rattle.rules.specs.Refusals.{refusal, size_refusal}
 use Rattle.rules.specs.Answers.{counted, unless}
-use Rattle.rules.specs.declared.Outcome.TheVariants.{Success}
 use Rattle.rules.specs.declared.Counts.{Counts}
 use Rattle.rules.specs.declared.Refusal.{Refusal}
 use Rattle.rules.proofs.Cage.{accepted}
@@ -49,9 +49,9 @@ counts_of_lem 𝓝 l fs xs e =
     both m s q a b = ap₂ put a b
 
 pub counts-ahead : (𝓝 : Numbers) (l : ℕ) (fs : List ℕ) (xs : List 𝓝.N)
-    → unless (refusal 𝓝 l fs xs) (Success (cage_counts l (length xs / 3) fs)) ≡ unless (refusal 𝓝 l fs xs) (Success (counted (last 𝓝 l fs xs).mesh))
+    → unless (refusal 𝓝 l fs xs) (Ok (cage_counts l (length xs / 3) fs)) ≡ unless (refusal 𝓝 l fs xs) (Ok (counted (last 𝓝 l fs xs).mesh))
 counts-ahead 𝓝 l fs xs = go (refusal 𝓝 l fs xs) refl
   where
-    go : (o : Option Refusal) → refusal 𝓝 l fs xs ≡ o → unless o (Success (cage_counts l (length xs / 3) fs)) ≡ unless o (Success (counted (last 𝓝 l fs xs).mesh))
-    go none e = ap Success (sym (counts_of_lem 𝓝 l fs xs e))
+    go : (o : Option Refusal) → refusal 𝓝 l fs xs ≡ o → unless o (Ok (cage_counts l (length xs / 3) fs)) ≡ unless o (Ok (counted (last 𝓝 l fs xs).mesh))
+    go none e = ap Ok (sym (counts_of_lem 𝓝 l fs xs e))
     go (some r) e = refl

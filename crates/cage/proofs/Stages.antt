@@ -1,4 +1,5 @@
 -- What a stage that passes leaves, and how stages follow each other.
+use Rattle.std.specs.Prelude.{Err, Ok}
 use mathlib.Core.Path.{◌≡◌, refl, ap, ◌∙◌}
 use mathlib.Core.Logic.{◌≢◌}
 use Prim.Native.Nat.{ℕ, ◌*◌, ◌/◌, ◌≤◌, ◌<◌}
@@ -13,31 +14,29 @@ use Rattle.rules.specs.Mesh.{onward, corner, sides}
 use Rattle.rules.specs.Refusals.{check, ◌or_else◌, equal_corners, used_before, same_set, list_refusal}
 use Rattle.rules.specs.Answers.{unless}
 use Rattle.rules.specs.declared.Refusal.{Refusal}
-use Rattle.rules.specs.declared.Outcome.{Outcome}
-use Rattle.rules.specs.declared.Outcome.TheVariants.{Refused}
+use Rattle.rules.specs.Outcome.{Outcome}
 use Rattle.rules.proofs.Checks.{Shape, check-none, apart-side, unique-sides, unfolded-sides}
 use Rattle.rules.proofs.Refine.{Good}
 use Rattle.limits.specs.Verdicts.{verdict_of}
 use Rattle.cage.specs.Chains.{Faces, Below, Apart, Once}
 use Rattle.cage.specs.Sizes.{judged, from_nine, from_seven, from_five, Listed}
-use Rattle.limits.specs.declared.Check.TheVariants.{Pass, No}
 use Rattle.limits.proofs.Search.{passes}
 
 -- ---- one stage after another
 
-pub unless-no : (a b : Option Refusal) (o : Outcome) (r : Refusal) → verdict_of a ≡ No r → Refused r ≡ unless (a or_else b) o
+pub unless-no : (a b : Option Refusal) (o : Outcome) (r : Refusal) → verdict_of a ≡ Err r → Err r ≡ unless (a or_else b) o
 unless-no none b o r e = absurd (let z : ◌≡◌ {A = ℕ} 0 1 = cc in omega arith)
 unless-no (some x) b o r e = cc
 
-pub unless-goes : (a b : Option Refusal) (o : Outcome) → verdict_of a ≡ Pass → unless (a or_else b) o ≡ unless b o
+pub unless-goes : (a b : Option Refusal) (o : Outcome) → verdict_of a ≡ (Ok tt) → unless (a or_else b) o ≡ unless b o
 unless-goes none b o e = refl
 unless-goes (some x) b o e = absurd (let z : ◌≡◌ {A = ℕ} 0 1 = cc in omega arith)
 
-pub unless-last : (a : Option Refusal) (o : Outcome) → verdict_of a ≡ Pass → unless a o ≡ o
+pub unless-last : (a : Option Refusal) (o : Outcome) → verdict_of a ≡ (Ok tt) → unless a o ≡ o
 unless-last none o e = refl
 unless-last (some x) o e = absurd (let z : ◌≡◌ {A = ℕ} 0 1 = cc in omega arith)
 
-pub unless-refused : (a : Option Refusal) (o : Outcome) (r : Refusal) → verdict_of a ≡ No r → Refused r ≡ unless a o
+pub unless-refused : (a : Option Refusal) (o : Outcome) (r : Refusal) → verdict_of a ≡ Err r → Err r ≡ unless a o
 unless-refused none o r e = absurd (let z : ◌≡◌ {A = ℕ} 0 1 = cc in omega arith)
 unless-refused (some x) o r e = cc
 
@@ -70,7 +69,7 @@ faces-of l n fs w = record { thirds = w.indices; few = omega (arith, w.indices, 
 pub coords-few : (l is n : ℕ) → Shape l is n → n ≤ 12288
 coords-few l is n w = omega (arith, w.coords, w.verts)
 
-pub below_of : (v : ℕ) (fs : List ℕ) → verdict_of (check 5 (find (λ u. leb v u) fs)) ≡ Pass → Below v fs
+pub below_of : (v : ℕ) (fs : List ℕ) → verdict_of (check 5 (find (λ u. leb v u) fs)) ≡ (Ok tt) → Below v fs
 below_of v fs e = record { each = λ s h. nleb→lt v (corner fs s) (find_none (λ u. leb v u) 0 fs (check-none 5 _ (passes _ e)) s h) }
 
 pub below_more : (v w : ℕ) (fs : List ℕ) → v ≤ w → Below v fs → Below w fs
@@ -80,10 +79,10 @@ module _ (fs : List ℕ) (w : Faces fs) where
   size : length fs ≡ 3 * (length fs / 3)
   size = let t = w.thirds in omega arith
 
-  pub apart_of : verdict_of (check 6 (lowest (equal_corners fs) (length fs / 3))) ≡ Pass → Apart fs
+  pub apart_of : verdict_of (check 6 (lowest (equal_corners fs) (length fs / 3))) ≡ (Ok tt) → Apart fs
   apart_of e = record { each = λ s h. apart-side fs (length fs / 3) size (check-none 6 _ (passes _ e)) s (let z = size in omega arith) }
 
-  pub once-of : verdict_of (check 7 (lowest (used_before (sides fs)) (3 * (length fs / 3)))) ≡ Pass → Once fs
+  pub once-of : verdict_of (check 7 (lowest (used_before (sides fs)) (3 * (length fs / 3)))) ≡ (Ok tt) → Once fs
   once-of e = record { each = λ s t h k. unique-sides fs (length fs / 3) size (check-none 7 _ (passes _ e)) s t (let z = size in omega arith) (let z = size in omega arith) }
 
   pub good_of : (v : ℕ) → Listed v fs → Good v (length fs / 3) fs
@@ -97,6 +96,3 @@ module _ (fs : List ℕ) (w : Faces fs) where
         unique = λ s t h k. p.once.each s t (omega arith) (omega arith);
         unfolded = unfolded-sides fs (length fs / 3) z apart p.sets;
       }
-
-pub listed_of : (v : ℕ) (fs : List ℕ) → Below v fs → Apart fs → Once fs → verdict_of (check 8 (lowest (λ f. found (lowest (same_set fs f) f)) (length fs / 3))) ≡ Pass → Listed v fs
-listed_of v fs b a o e = record { below = b; apart = a; once = o; sets = check-none 8 _ (passes _ e) }

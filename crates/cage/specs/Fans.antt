@@ -1,5 +1,6 @@
 -- What the checks of the fans read, and what a turn says to each.
 use Rattle.std.specs.Prelude.{ℕ, ◌≤◌, ◌<◌, ◌≡◌, Bool, List, map, eqb, ltb, length, get_or, take}
+use Rattle.std.specs.Prelude as code
 use Rattle.std.proofs.Math.Option.{Option, none, some}
 use Rattle.lists.specs.Lists.{tally, lowest}
 use Rattle.turns.specs.Turns.{most_valence}
@@ -38,10 +39,10 @@ short_of (Inner k) n = ltb k n
 short_of (Rim k e) n = ltb k n
 short_of Endless n = ltb 0 n
 
--- a place below v, or v for none
-abbrev pub place_or : ℕ → Option ℕ → ℕ
-place_or v none = v
-place_or v (some i) = i
+-- a place as the code has it
+abbrev pub place_of : Option ℕ → code.Option ℕ
+place_of none = code.None
+place_of (some i) = code.Some i
 
 -- 10 and 12, what `fan_refusal` has after 9
 abbrev pub turn_refusal : ℕ → List ℕ → Option Refusal

@@ -1,5 +1,5 @@
 -- The counts of a control cage, and the stages that are left after each check.
-use Rattle.std.specs.Prelude.{ℕ, ◌*◌, ◌/◌, ◌≡◌, List, length}
+use Rattle.std.specs.Prelude.{ℕ, ◌*◌, ◌/◌, ◌≡◌, List, length, Ok}
 use Rattle.std.proofs.Math.Option.{Option, none}
 use Rattle.lists.specs.Lists.{find, lowest, found}
 use Rattle.rules.specs.Sharp.{unlinked, told}
@@ -9,8 +9,7 @@ use Rattle.rules.specs.Refusals.{check, ◌or_else◌, same_set, used_before, li
 use Rattle.rules.specs.Answers.{unless}
 use Rattle.rules.specs.declared.Refusal.{Refusal}
 use Rattle.rules.specs.declared.Counts.{Counts}
-use Rattle.rules.specs.declared.Outcome.{Outcome}
-use Rattle.rules.specs.declared.Outcome.TheVariants.{Success}
+use Rattle.rules.specs.Outcome.{Outcome}
 use Rattle.limits.specs.Sizes.{counts_after}
 use Rattle.cage.specs.Chains.{Below, Apart, Once}
 
@@ -36,7 +35,7 @@ from_five l v sh fs = list_refusal v fs or_else from_nine l v sh fs
 
 -- what is answered where such a rest is left
 abbrev pub judged : Option Refusal → ℕ → ℕ → List ℕ → Outcome
-judged rest l v fs = unless rest (Success (cage_counts l v fs))
+judged rest l v fs = unless rest (Ok (cage_counts l v fs))
 
 -- a face list after checks 5 to 8
 pub record Listed (v : ℕ) (fs : List ℕ) : Type 0 where

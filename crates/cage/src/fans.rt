@@ -1,6 +1,8 @@
 // Checks 9 to 12: the faces round each vertex.
-ghost use Rattle.std.specs.Prelude.{◌≡◌, not, ◌&&◌, ◌≤◌, ◌<◌, length, get_or, eqb, ltb};
-ghost use Rattle.lists.specs.Lists.{pick, find, lowest, found};
+ghost use Rattle.std.specs.Prelude.{◌≡◌, not, ◌≤◌, ◌<◌, length, get_or, eqb, ltb};
+ghost use Rattle.std.specs.Option.{option_or};
+ghost use Rattle.std.specs.Bool.{then_some};
+ghost use Rattle.lists.specs.Lists.{find, lowest, found};
 ghost use Rattle.turns.specs.Turns.{most_valence};
 ghost use Rattle.rules.specs.Mesh.{links, fan, last_corner};
 ghost use Rattle.rules.specs.Refusals.{check, fan_refusal};
@@ -20,12 +22,8 @@ pub fn count_corners(indices: &[u32], counts: &mut [u16])
     requires empty { Tallied indices.now 0 counts.old }
     ensures { Tallied indices.now (length indices.now) counts.new }
 {
-    let mut s = 0;
-    while s < indices.len() {
-        let a = indices[s] as usize;
-        let n = counts[a];
-        counts[a] = n + 1;
-        s = s + 1;
+    for &u in indices {
+        counts[u as usize] += 1;
     }
 }
 
@@ -34,14 +32,12 @@ fn unused(indices: &[u32], heads: &[u16], v: usize) -> Check
     requires { Heads indices.now (length indices.now) heads.now × (v ≤ length heads.now) × (v ≤ 4096) }
     ensures { result ≡ verdict_of (check 9 (lowest (λ u. not (found (find (eqb u) indices.now))) v)) }
 {
-    let mut u = 0;
-    while u < v {
+    for u in 0..v {
         if heads[u] == 0 {
             return no(9, u as u32);
         }
-        u = u + 1;
     }
-    Check::Pass
+    Ok(())
 }
 
 // Round vertex u from its start corner.
@@ -74,16 +70,11 @@ pub fn wide(t: Turn) -> bool
     }
 }
 
-// What was seen first, if there is something at u too; v stands for nothing seen.
-pub fn first(seen: usize, v: usize, here: bool, u: usize) -> usize
-    ensures { result ≡ pick (here && eqb seen v) u seen }
+// What was seen first, if there is something at u too.
+pub fn first(seen: Option<usize>, here: bool, u: usize) -> Option<usize>
+    ensures { result ≡ option_or seen (then_some here u) }
 {
-    if here {
-        if seen == v {
-            return u;
-        }
-    }
-    seen
+    seen.or(here.then_some(u))
 }
 
 // 10 and 12 in one walk round each vertex: 10 anywhere comes before 12 anywhere.
@@ -93,20 +84,18 @@ fn turns(indices: &[u32], heads: &[u16], counts: &[u16], words: &[u32], v: usize
     requires used { Used v heads.now }
     ensures { result ≡ verdict_of (turn_refusal v indices.now) }
 {
-    let mut crowded = v;
-    let mut u = 0;
-    while u < v {
+    let mut crowded = None;
+    for u in 0..v {
         let t = turn_at(indices, heads, words, u);
         if short(t, counts[u]) {
             return no(10, u as u32);
         }
-        crowded = first(crowded, v, wide(t), u);
-        u = u + 1;
+        crowded = first(crowded, wide(t), u);
     }
-    if crowded < v {
-        return no(12, crowded as u32);
+    match crowded {
+        Some(u) => no(12, u as u32),
+        None => Ok(()),
     }
-    Check::Pass
 }
 
 // 9 to 12.
@@ -115,8 +104,6 @@ pub fn fans(indices: &[u32], heads: &[u16], counts: &[u16], words: &[u32], v: us
     requires counts { Tallied indices.now (length indices.now) counts.now × (v ≤ length counts.now) × (v ≤ length heads.now) × (v ≤ 4096) }
     ensures { result ≡ verdict_of (fan_refusal v indices.now) }
 {
-    match unused(indices, heads, v) {
-        Check::No(r) => Check::No(r),
-        Check::Pass => turns(indices, heads, counts, words, v),
-    }
+    unused(indices, heads, v)?;
+    turns(indices, heads, counts, words, v)
 }

@@ -2,10 +2,10 @@
 // here: what a check needs to remember stands in local arrays.
 #![tactic(auto)]
 
-ghost use Rattle.std.specs.Prelude.{◌≡◌, ◌+◌, ◌≤◌, map, length, take};
+ghost use Rattle.std.specs.Prelude.{◌≡◌, ◌+◌, ◌≤◌, map, length, take, Ok};
 ghost use Rattle.std.proofs.lemmas.List.Edits.{sets};
 ghost use Rattle.rules.specs.Mesh.{links, cage};
-ghost use Rattle.rules.specs.Position.{whole, single};
+ghost use Rattle.rules.specs.Position.{numbers_of, whole};
 ghost use Rattle.rules.specs.Levels.{last};
 ghost use Rattle.rules.specs.Refusals.{size_refusal, refusal};
 ghost use Rattle.rules.specs.Sharp.{sharp_refusal, sharp_last};
@@ -17,8 +17,8 @@ ghost use Rattle.cage.specs.Sizes.{judged, from_marks, from_nine, from_eight, fr
 
 use limits::Check;
 use rules::Outcome;
+use rules::numbers::Number;
 
-pub mod boundary;
 pub mod fans;
 pub mod list;
 pub mod marks;
@@ -47,10 +47,8 @@ fn judge_size(levels: u32, indices: &[u32], words: &[u32], v: usize) -> Outcome
     let f = (n / 3) as u32;
     let r = limits::size::count_rims(words, n);
     let c = limits::size::grown(levels, v as u32, f, (3 * f + r) / 2, r);
-    match limits::size::size(c) {
-        Check::No(x) => Outcome::Refused(x),
-        Check::Pass => Outcome::Success(c),
-    }
+    limits::size::size(c)?;
+    Ok(c)
 }
 
 // 18 and 13.
@@ -59,10 +57,8 @@ fn judge_marks(levels: u32, indices: &[u32], words: &[u32], v: usize, sharp: &[u
     requires links { (length indices.now ≤ length words.now) × (take (length indices.now) words.now ≡ map coded (links indices.now)) }
     ensures { result ≡ judged (from_marks levels v sharp.now indices.now) levels v indices.now }
 {
-    match marks::marks(sharp, indices, words) {
-        Check::No(x) => Outcome::Refused(x),
-        Check::Pass => judge_size(levels, indices, words, v),
-    }
+    marks::marks(sharp, indices, words)?;
+    judge_size(levels, indices, words, v)
 }
 
 fn judge_fans(
@@ -79,10 +75,8 @@ fn judge_fans(
 {
     let mut counts = [0u16; 4096];
     fans::count_corners(indices, &mut counts);
-    match fans::fans(indices, heads, &counts, words, v) {
-        Check::No(x) => Outcome::Refused(x),
-        Check::Pass => judge_marks(levels, indices, words, v, sharp),
-    }
+    fans::fans(indices, heads, &counts, words, v)?;
+    judge_marks(levels, indices, words, v, sharp)
 }
 
 fn judge_links(
@@ -98,10 +92,8 @@ fn judge_links(
     requires tables { Tables indices.now heads.now words.now }
     ensures { result ≡ judged (from_eight levels v sharp.now indices.now) levels v indices.now }
 {
-    match list::doubled(indices, words) {
-        Check::No(x) => Outcome::Refused(x),
-        Check::Pass => judge_fans(levels, indices, heads, words, v, sharp),
-    }
+    list::doubled(indices, words)?;
+    judge_fans(levels, indices, heads, words, v, sharp)
 }
 
 fn judge_sides(levels: u32, indices: &[u32], v: usize, sharp: &[u32]) -> Outcome
@@ -113,10 +105,8 @@ fn judge_sides(levels: u32, indices: &[u32], v: usize, sharp: &[u32]) -> Outcome
     let mut words = [0u32; 12288];
     sides::chain(indices, &mut heads, &mut nexts);
     let low = sides::link(indices, &heads, &nexts, &mut words, 0);
-    match list::reused(indices, low) {
-        Check::No(x) => Outcome::Refused(x),
-        Check::Pass => judge_links(levels, indices, &heads, &words, v, sharp),
-    }
+    list::reused(indices, low)?;
+    judge_links(levels, indices, &heads, &words, v, sharp)
 }
 
 // 5 to 13, with 18 between 12 and 13: what does not ask for the kind of number.
@@ -124,49 +114,25 @@ fn judge_faces(levels: u32, indices: &[u32], v: usize, sharp: &[u32]) -> Outcome
     requires { (levels ≤ 7) × (v ≤ 4096) × Faces indices.now }
     ensures { result ≡ judged (from_five levels v sharp.now indices.now) levels v indices.now }
 {
-    match limits::list::beyond(indices, v as u32) {
-        Check::No(x) => Outcome::Refused(x),
-        Check::Pass => match limits::list::flat(indices) {
-            Check::No(x) => Outcome::Refused(x),
-            Check::Pass => judge_sides(levels, indices, v, sharp),
-        },
-    }
+    limits::list::beyond(indices, v as u32)?;
+    limits::list::flat(indices)?;
+    judge_sides(levels, indices, v, sharp)
 }
 
 // The refusal of a cage, or what its last level counts.
-pub fn judge_whole(levels: u32, indices: &[u32], coords: &[i32]) -> Outcome
-    ensures { result ≡ unless (refusal whole levels indices.now coords.now) (Outcome.Success (counted (last whole levels indices.now coords.now).mesh)) }
+pub fn judge<N: Number>(levels: u32, indices: &[u32], coords: &[N]) -> Outcome
+    ensures { result ≡ unless (refusal (numbers_of N.on) levels indices.now coords.now) (Ok (counted (last (numbers_of N.on) levels indices.now coords.now).mesh)) }
 {
-    match limits::shape(levels, indices.len(), coords.len()) {
-        Check::No(x) => Outcome::Refused(x),
-        Check::Pass => match limits::whole_range(coords) {
-            Check::No(x) => Outcome::Refused(x),
-            Check::Pass => judge_faces(levels, indices, coords.len() / 3, &indices[..0]),
-        },
-    }
+    limits::shape(levels, indices.len(), coords.len())?;
+    limits::range(coords)?;
+    judge_faces(levels, indices, coords.len() / 3, &indices[..0])
 }
 
 // The same with a list of sharp sides, in whole micrometres alone.
 pub fn judge_sharp(levels: u32, indices: &[u32], coords: &[i32], sharp: &[u32]) -> Outcome
-    ensures { result ≡ unless (sharp_refusal whole levels sharp.now indices.now coords.now) (Outcome.Success (counted (sharp_last whole levels sharp.now indices.now coords.now).mesh)) }
+    ensures { result ≡ unless (sharp_refusal whole levels sharp.now indices.now coords.now) (Ok (counted (sharp_last whole levels sharp.now indices.now coords.now).mesh)) }
 {
-    match limits::shape(levels, indices.len(), coords.len()) {
-        Check::No(x) => Outcome::Refused(x),
-        Check::Pass => match limits::whole_range(coords) {
-            Check::No(x) => Outcome::Refused(x),
-            Check::Pass => judge_faces(levels, indices, coords.len() / 3, sharp),
-        },
-    }
-}
-
-pub fn judge_single(levels: u32, indices: &[u32], coords: &[f32]) -> Outcome
-    ensures { result ≡ unless (refusal single levels indices.now coords.now) (Outcome.Success (counted (last single levels indices.now coords.now).mesh)) }
-{
-    match limits::shape(levels, indices.len(), coords.len()) {
-        Check::No(x) => Outcome::Refused(x),
-        Check::Pass => match limits::single_range(coords) {
-            Check::No(x) => Outcome::Refused(x),
-            Check::Pass => judge_faces(levels, indices, coords.len() / 3, &indices[..0]),
-        },
-    }
+    limits::shape(levels, indices.len(), coords.len())?;
+    limits::range(coords)?;
+    judge_faces(levels, indices, coords.len() / 3, sharp)
 }

@@ -6,19 +6,19 @@ ghost use Rattle.rules.specs.Refusals.{check, used_before, same_set};
 ghost use Rattle.faces.specs.Words.{link_of, coded};
 ghost use Rattle.limits.specs.Verdicts.{verdict_of};
 ghost use Rattle.cage.specs.Chains.{Faces, Apart, Once, folds_back};
-ghost use Rattle.cage.specs.Fans.{place_or};
+ghost use Rattle.cage.specs.Fans.{place_of};
 
 use limits::{Check, no};
 
-// 7: an earlier side that leaves the same vertex ends where side s does. `low` is the lowest such side, or as many as there are sides.
-pub fn reused(indices: &[u32], low: u32) -> Check
-    requires { Faces indices.now × (low ≡ place_or (length indices.now) (lowest (used_before (sides indices.now)) (length indices.now))) }
+// 7: an earlier side that leaves the same vertex ends where side s does. `low` is the lowest such side.
+pub fn reused(indices: &[u32], low: Option<u32>) -> Check
+    requires { Faces indices.now × (low ≡ place_of (lowest (used_before (sides indices.now)) (length indices.now))) }
     ensures { result ≡ verdict_of (check 7 (lowest (used_before (sides indices.now)) (3 * (length indices.now / 3)))) }
 {
-    if (low as usize) < indices.len() {
-        return no(7, low);
+    match low {
+        Some(s) => no(7, s),
+        None => Ok(()),
     }
-    Check::Pass
 }
 
 // Does face f have the corner set of an earlier face, if its side 0 has this link word?
@@ -30,11 +30,7 @@ fn folds_back(indices: &[u32], f: usize, link: u32) -> bool
         return false;
     }
     let t = (link - 1) as usize;
-    if t < 3 * f {
-        indices[faces::sides::backward(t)] == indices[3 * f + 2]
-    } else {
-        false
-    }
+    t < 3 * f && indices[faces::sides::backward(t)] == indices[3 * f + 2]
 }
 
 // 8: after 6 and 7, a face with the corner set of an earlier one is that face turned over, so it lies across side 0.
@@ -44,12 +40,10 @@ pub fn doubled(indices: &[u32], words: &[u32]) -> Check
     requires once { Apart indices.now × Once indices.now }
     ensures { result ≡ verdict_of (check 8 (lowest (λ f. found (lowest (same_set indices.now f) f)) (length indices.now / 3))) }
 {
-    let mut f = 0;
-    while f < indices.len() / 3 {
+    for f in 0..indices.len() / 3 {
         if folds_back(indices, f, words[3 * f]) {
             return no(8, f as u32);
         }
-        f = f + 1;
     }
-    Check::Pass
+    Ok(())
 }

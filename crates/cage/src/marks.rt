@@ -13,7 +13,7 @@ use limits::{Check, no};
 pub fn place(i: usize) -> u32
     ensures { result ≡ min i 4294967295 }
 {
-    if i < 4294967295 { i as u32 } else { 4294967295 }
+    u32::try_from(i).unwrap_or(u32::MAX)
 }
 
 // "not below 3F, or on the rim"
@@ -22,10 +22,7 @@ fn loose(indices: &[u32], words: &[u32], s: u32) -> bool
     ensures { result ≡ unlinked (links indices.now) s }
 {
     let k = s as usize;
-    if k >= indices.len() {
-        return true;
-    }
-    words[k] == 0
+    k >= indices.len() || words[k] == 0
 }
 
 // 18
@@ -33,12 +30,10 @@ pub fn marks(sharp: &[u32], indices: &[u32], words: &[u32]) -> Check
     requires { Linked indices.now words.now }
     ensures { result ≡ verdict_of (check 18 (told (find (unlinked (links indices.now)) sharp.now))) }
 {
-    let mut i = 0;
-    while i < sharp.len() {
-        if loose(indices, words, sharp[i]) {
+    for (i, &s) in sharp.iter().enumerate() {
+        if loose(indices, words, s) {
             return no(18, place(i));
         }
-        i = i + 1;
     }
-    Check::Pass
+    Ok(())
 }

@@ -7,7 +7,7 @@ ghost use Rattle.rules.specs.Mesh.{onward, corner, sides, links};
 ghost use Rattle.rules.specs.Refusals.{used_before};
 ghost use Rattle.faces.specs.Words.{coded};
 ghost use Rattle.cage.specs.Chains.{last_below, leaves, runs, Faces, Below, Once, Heads, Chained, fresh_mark, lower_of, Marked, Met, Repeat, Least, Coming, before};
-ghost use Rattle.cage.specs.Fans.{place_or};
+ghost use Rattle.cage.specs.Fans.{place_of};
 
 // Where side s ends.
 pub fn end_of(indices: &[u32], s: usize) -> u32
@@ -24,12 +24,10 @@ pub fn chain(indices: &[u32], heads: &mut [u16], nexts: &mut [u16])
     ensures heads { Heads indices.now (length indices.now) heads.new }
     ensures nexts { Chained indices.now (length indices.now) nexts.new }
 {
-    let mut s = 0;
-    while s < indices.len() {
-        let a = indices[s] as usize;
+    for (s, &u) in indices.iter().enumerate() {
+        let a = u as usize;
         nexts[s] = heads[a];
-        s = s + 1;
-        heads[a] = s as u16;
+        heads[a] = (s + 1) as u16;
     }
 }
 
@@ -48,12 +46,7 @@ fn fresh(indices: &[u32], m: u16, u: u32) -> u16
 fn lower(low: u32, m: u16, h: u16) -> u32
     ensures { result ≡ lower_of low m h }
 {
-    if m > h {
-        if ((m - 1) as u32) < low {
-            return (m - 1) as u32;
-        }
-    }
-    low
+    if m > h { low.min((m - 1) as u32) } else { low }
 }
 
 // Along the chain of vertex u: each side leaves a mark at its end. Where it meets one of u, that is of a later side, which so is used before; the lowest of
@@ -67,6 +60,7 @@ fn mark(indices: &[u32], nexts: &[u16], head: u16, u: u32, marks: &mut [u16], lo
 {
     let mut seen = low;
     let mut h = head;
+    // Stays: a walk along a chain, whose next side stands in `nexts`, counts no index.
     while h > 0 {
         let s = (h - 1) as usize;
         let b = end_of(indices, s) as usize;
@@ -94,6 +88,7 @@ fn put_coming(
     ensures { Coming indices.now at u 0 words.old words.new }
 {
     let mut h = head;
+    // Stays: a walk along a chain, as in `mark`.
     while h > 0 {
         let s = (h - 1) as usize;
         let t = faces::sides::backward(s);
@@ -135,31 +130,38 @@ fn put_vertices(
     marks: &mut [u16],
     words: &mut [u32],
     at: usize,
-) -> u32
+) -> Option<u32>
     requires sizes { Faces indices.now × Below (length heads.now) indices.now × Below (length marks.old) indices.now × (at + length indices.now ≤ length words.old) }
     requires chains { Heads indices.now (length indices.now) heads.now × Chained indices.now (length indices.now) nexts.now }
     requires marks { Marked indices.now marks.old }
-    ensures used { result ≡ place_or (length indices.now) (lowest (used_before (sides indices.now)) (length indices.now)) }
+    ensures used { result ≡ place_of (lowest (used_before (sides indices.now)) (length indices.now)) }
     ensures links { Once indices.now → words.new ≡ sets words.old at (map coded (links indices.now)) }
 {
+    // Stays: the lowest so far begins past every side, so that `lower` has one comparison for none and for some.
     let mut low = indices.len() as u32;
-    let mut s = 0;
-    while s < indices.len() {
+    for (s, &u) in indices.iter().enumerate() {
         if nexts[s] == 0 {
-            let u = indices[s];
             low = put_vertex(indices, nexts, heads[u as usize], u, marks, words, at, low);
         }
-        s = s + 1;
     }
-    low
+    if low < indices.len() as u32 {
+        Some(low)
+    } else {
+        None
+    }
 }
 
-// The link word of each side; and of the sides that are used before the lowest, or as many as there are sides. No side is sought, so a vertex of many faces
-// costs no more for each of them.
-pub fn link(indices: &[u32], heads: &[u16], nexts: &[u16], words: &mut [u32], at: usize) -> u32
+// The link word of each side; and of the sides that are used before the lowest. No side is sought, so a vertex of many faces costs no more for each of them.
+pub fn link(
+    indices: &[u32],
+    heads: &[u16],
+    nexts: &[u16],
+    words: &mut [u32],
+    at: usize,
+) -> Option<u32>
     requires sizes { Faces indices.now × Below (length heads.now) indices.now × Below 4096 indices.now × (at + length indices.now ≤ length words.old) }
     requires chains { Heads indices.now (length indices.now) heads.now × Chained indices.now (length indices.now) nexts.now }
-    ensures used { result ≡ place_or (length indices.now) (lowest (used_before (sides indices.now)) (length indices.now)) }
+    ensures used { result ≡ place_of (lowest (used_before (sides indices.now)) (length indices.now)) }
     ensures links { Once indices.now → words.new ≡ sets words.old at (map coded (links indices.now)) }
 {
     let mut marks = [0u16; 4096];
@@ -173,6 +175,7 @@ fn seek(indices: &[u32], nexts: &[u16], head: u16, b: u32) -> u32
     ensures { result ≡ last_below (runs indices.now (corner indices.now (head - 1)) b) head }
 {
     let mut h = head;
+    // Stays: a walk along a chain, as in `mark`.
     while h > 0 {
         let k = (h - 1) as usize;
         if end_of(indices, k) == b {
@@ -191,20 +194,19 @@ pub fn put_links(indices: &[u32], heads: &[u16], nexts: &[u16], words: &mut [u32
     requires once { Once indices.now }
     ensures { words.new ≡ sets words.old at (map coded (links indices.now)) }
 {
-    let mut s = 0;
-    while s < indices.len() {
+    for (s, &a) in indices.iter().enumerate() {
         let b = end_of(indices, s) as usize;
-        let t = seek(indices, nexts, heads[b], indices[s]);
+        let t = seek(indices, nexts, heads[b], a);
         words[at + s] = t;
-        s = s + 1;
     }
 }
 
-// The side at that place of a chain; 0 where the chain is empty.
+// The side at that place of a chain.
+// Stays: where the chain is empty it is 0, since `last_corner` is 0 for a vertex that no side leaves, and `link_words` says so of every cage.
 pub fn side_of(h: u16) -> u32
     ensures { result ≡ before h }
 {
-    if h == 0 { 0 } else { (h - 1) as u32 }
+    u32::from(h.saturating_sub(1))
 }
 
 // A vertex starts at the last corner in the list that is it.
@@ -212,10 +214,8 @@ pub fn put_starts(heads: &[u16], v: usize, words: &mut [u32], at: usize)
     requires { (v ≤ length heads.now) × (at + v ≤ length words.old) }
     ensures { words.new ≡ sets words.old at (map before (take v heads.now)) }
 {
-    let mut u = 0;
-    while u < v {
+    for u in 0..v {
         let s = side_of(heads[u]);
         words[at + u] = s;
-        u = u + 1;
     }
 }

@@ -1,7 +1,7 @@
 // Crate `cage` for C (tests/checks.c): five numbers (docs/RULES.md, Answers), refusal number or 0, place, vertices, faces, rim sides.
 #![tactic(auto)]
 
-ghost use Rattle.std.specs.Prelude.{◌≡◌};
+ghost use Rattle.std.specs.Prelude.{◌≡◌, Ok};
 ghost use Rattle.rules.specs.Position.{whole, single};
 ghost use Rattle.rules.specs.Levels.{last};
 ghost use Rattle.rules.specs.Refusals.{refusal};
@@ -16,9 +16,9 @@ pub extern "C" fn cage_judge_whole(
     coords: &[i32],
     told: &mut [u32; 5],
 )
-    ensures { told.new ≡ answer (unless (refusal whole levels indices.now coords.now) (Outcome.Success (counted (last whole levels indices.now coords.now).mesh))) }
+    ensures { told.new ≡ answer (unless (refusal whole levels indices.now coords.now) (Ok (counted (last whole levels indices.now coords.now).mesh))) }
 {
-    rules::tell(cage::judge_whole(levels, indices, coords), told);
+    rules::tell(cage::judge(levels, indices, coords), told);
 }
 
 #[unsafe(no_mangle)]
@@ -28,7 +28,7 @@ pub extern "C" fn cage_judge_single(
     coords: &[f32],
     told: &mut [u32; 5],
 )
-    ensures { told.new ≡ answer (unless (refusal single levels indices.now coords.now) (Outcome.Success (counted (last single levels indices.now coords.now).mesh))) }
+    ensures { told.new ≡ answer (unless (refusal single levels indices.now coords.now) (Ok (counted (last single levels indices.now coords.now).mesh))) }
 {
-    rules::tell(cage::judge_single(levels, indices, coords), told);
+    rules::tell(cage::judge(levels, indices, coords), told);
 }

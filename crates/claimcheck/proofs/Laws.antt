@@ -1,28 +1,26 @@
 -- A number below zero fits; lists that are equal place by place are equal; what stands in front of a buffer; the verdict with its rim sides; and which refusal comes before all else.
 use Prim.Native.Nat.{ℕ, zero, suc, ◌+◌, ◌-◌, ◌≤◌, ◌<◌}
-use mathlib.Core.Path.{◌≡◌, refl, sym, ap, ◌∙◌}
+use mathlib.Core.Path.{◌≡◌, refl, ap, ◌∙◌}
 use mathlib.Core.Bool.{Bool, true, false}
 use mathlib.Core.List.{List, [], ◌∷◌}
 use mathlib.Core.Option.{none, some}
 use native.Mathlib.Omega.{arith}
-use native.Mathlib.Decide.{dec_lt}
-use lib.IntN.{ℤ, pos, negsuc, ◌-ℤ◌}
-use lib.ListN.{length, get_or, take, drop, length-drop}
+use lib.IntN.{pos, negsuc, ◌-ℤ◌}
+use lib.Dec.{eqb}
+use lib.ListN.{length, take, drop, length-drop}
 use lib.Seq.{take_all}
 use borrow.Author.Tests.{lt-ltb, le-ltb}
 use mir.Syntax.{w32}
 use mir.Val.{SFits}
-use Rattle.lists.specs.Lists.{bit}
-use Rattle.lists.proofs.Places.{taken}
+use Rattle.lists.specs.Lists.{pick}
 use Rattle.lists.proofs.Stores.{part_of}
 use Rattle.rules.specs.Sheets.{word_at, bad_sheet, sheet_levels, sheet_indices, sheet_coords, sheet_outcome, cut_rooms, most_input}
 use Rattle.listing.specs.Text.{Put, mesh_text}
-use Rattle.reader.specs.Reading.{sheet_of}
-use Rattle.reader.specs.declared.Sheet.TheVariants as sheet
+use Rattle.station.specs.declared.Fault.TheVariants.{Counts as CountsDiffer}
+use Rattle.station.specs.declared.Verdict.TheVariants.{Yes, No, Refused}
 use Rattle.station.specs.Acceptance.{verdict}
 use Rattle.station.specs.declared.Verdict.{Verdict}
-use Rattle.claimcheck.specs.Output.{Claim, rims_of, with_rims, claim_verdict, claim_text, Heard, Judged, sheet_in, listing_in, early}
-use Rattle.claimcheck.specs.declared.Seen.{Seen}
+use Rattle.claimcheck.specs.Output.{Claim, rims_of, with_rims, verdict_text, unreadable_text, claim_verdict, Judged, sheet_in, listing_in, early}
 
 below-zero : (n : ℕ) → pos 0 -ℤ pos (suc n) ≡ negsuc n
 below-zero n = let e : suc n - 1 ≡ n = omega arith in rw (lt-ltb 0 (suc n) (omega arith), e)
@@ -31,23 +29,7 @@ pub minus-fits : (n : ℕ) → n ≤ 2147483647 → SFits w32 (pos 0 -ℤ pos n)
 minus-fits zero h = record { sfits = omega arith }
 minus-fits (suc n) h = rw (below-zero n) (record { sfits = omega arith })
 
--- ---- two lists
-
-pub same_lists : (a b : List ℕ) → length a ≡ length b → ((j : ℕ) → j < length a → get_or a j 0 ≡ get_or b j 0) → a ≡ b
-same_lists [] [] e h = refl
-same_lists [] (y ∷ b) e h = absurd (omega (arith, e))
-same_lists (x ∷ a) [] e h = absurd (omega (arith, e))
-same_lists (x ∷ a) (y ∷ b) e h =
-    let p : x ≡ y = h 0 (omega arith) in
-    let q : a ≡ b = same_lists a b (omega (arith, e)) (λ j k. h (suc j) (omega (arith, k))) in
-    rw (p, q) refl
-
-pub one_more : (a b : List ℕ) (i : ℕ) → ((j : ℕ) → j < i → get_or a j 0 ≡ get_or b j 0) → get_or a i 0 ≡ get_or b i 0 → (j : ℕ) → j < i + 1 → get_or a j 0 ≡ get_or b j 0
-one_more a b i h e j k = go (dec_lt j i)
-  where
-    go : Dec (j < i) → get_or a j 0 ≡ get_or b j 0
-    go (yes l) = h j l
-    go (no l) = let z : j ≡ i = omega arith in rw z e
+-- ---- a part
 
 pub short : (n : ℕ) (l : List ℕ) → length (take n l) ≤ n
 short zero [] = omega arith
@@ -60,20 +42,35 @@ short (suc n) (x ∷ l) = omega (arith, short n l)
 pub put_front : {a b p : List ℕ} {n : ℕ} → Put a 0 p b n → n ≤ length a → take n b ≡ p
 put_front {a} {b} {p} {n} w h = rw w.text (part_of p a 0 n (omega (arith, w.next-is)) (omega (arith, h)))
 
-pub heard-nothing : (text : List ℕ) (ps : List ℤ) (fs : List ℕ) (s : Seen) → s ≡ record { whole = false; counts = record { vertices = 0; faces = 0; rims = 0 } } → Heard text s ps fs
-heard-nothing text ps fs s e =
-    rw e (record { vertices = omega arith; faces = omega arith; read = λ z. absurd (let y : ◌≡◌ {A = ℕ} 0 1 = ap bit z in omega arith) })
-
 -- ---- the verdict
 
-pub judged-by : (t : ℕ) (b listing before after : List ℕ) (next : ℕ) (k : Claim) (whole : Bool) (v w : Verdict) (o : ℕ)
-    → (whole ≡ true → listing ≡ mesh_text k.counts k.positions k.faces)
+pub judged-by : (t : ℕ) (b listing before after : List ℕ) (next : ℕ) (k : Claim) (v w : Verdict) (o : ℕ)
+    → listing ≡ mesh_text k.counts k.positions k.faces
     → v ≡ verdict cut_rooms t (sheet_levels b) (sheet_indices b) (sheet_coords b) k.faces k.positions → o ≡ rims_of (sheet_outcome cut_rooms b) → w ≡ with_rims k.counts.rims o v
-    → Put before 0 (claim_text whole w) after next → Judged t b listing before after next
+    → Put before 0 (verdict_text w) after next → Judged t b listing before after next
 unfolding claim_verdict
-judged-by t b listing before after next k whole v w o r e f g p =
+judged-by t b listing before after next k v w o r e f g p =
     let h = g ∙ ap (λ (x : ℕ). with_rims k.counts.rims x v) f ∙ ap (λ (x : Verdict). with_rims k.counts.rims (rims_of (sheet_outcome cut_rooms b)) x) e in
-    record { claim = k; whole = whole; read = r; put = rw h at p }
+    record { claim = k; whole = true; read = λ z. r; put = rw h at p }
+
+-- what is no listing claims nothing; its rim sides change nothing of what is told
+told-as : (theirs ours : ℕ) (v : Verdict) → unreadable_text v ≡ unreadable_text (with_rims theirs ours v)
+unfolding unreadable_text
+told-as theirs ours Yes = go (eqb theirs ours)
+  where
+    go : (t : Bool) → unreadable_text Yes ≡ unreadable_text (pick t Yes (No CountsDiffer))
+    go true = refl
+    go false = refl
+told-as theirs ours (No x) = refl
+told-as theirs ours (Refused r) = refl
+
+pub unread : (t : ℕ) (b listing before after : List ℕ) (next : ℕ) (v : Verdict)
+    → v ≡ verdict cut_rooms t (sheet_levels b) (sheet_indices b) (sheet_coords b) [] []
+    → Put before 0 (unreadable_text v) after next → Judged t b listing before after next
+unfolding claim_verdict
+unread t b listing before after next v e p =
+    let h = told-as 0 (rims_of (sheet_outcome cut_rooms b)) v ∙ ap (λ (x : Verdict). unreadable_text (with_rims 0 (rims_of (sheet_outcome cut_rooms b)) x)) e in
+    record { claim = record { counts = record { vertices = 0; faces = 0; rims = 0 }; positions = []; faces = [] }; whole = false; read = λ z. cc; put = rw h at p }
 
 -- ---- the input
 
@@ -103,10 +100,3 @@ module _ (i : List ℕ) (n : ℕ) (e : n ≡ word_at i 4) where
 pub early-none : (i : List ℕ) → length i < 8 → early i ≡ some 15
 unfolding early
 early-none i h = rw (lt-ltb (length i) 8 h) refl
-
-unlike : {v f l : ℕ} → sheet.Is v f l ≡ sheet.Refused → ⊥
-unlike {v} {f} {l} e = let z : ◌≡◌ {A = ℕ} 0 1 = cc in omega arith
-
-pub bad-of : (b : List ℕ) → sheet_of b ≡ sheet.Refused → bad_sheet b ≡ true
-unfolding sheet_of
-bad-of b e = (taken (bad_sheet b) unlike e).0

@@ -1,17 +1,16 @@
 -- What `claimcheck` writes for an input: the verdict on a claim that stands in a listing.
-use Rattle.std.specs.Prelude.{ℕ, ◌+◌, ◌*◌, ◌≤◌, ◌≡◌, Bool, true, false, List, [], ◌∷◌, ◌++◌, eqb, ltb, ℤ, length, take, drop}
+use Rattle.std.specs.Prelude.{ℕ, ◌+◌, ◌*◌, ◌≤◌, ◌≡◌, Bool, true, false, List, [], ◌∷◌, ◌++◌, eqb, ltb, ℤ, length, take, drop, Err, Ok}
+use Rattle.std.specs.Prelude as opt
 use Rattle.std.proofs.Math.Option.{Option, none, some}
 use Rattle.lists.specs.Lists.{pick}
 use Rattle.rules.specs.Sheets.{word_at, bad_sheet, sheet_levels, sheet_indices, sheet_coords, sheet_outcome, cut_rooms, most_input}
 use Rattle.rules.specs.declared.Counts.{Counts}
-use Rattle.rules.specs.declared.Outcome.{Outcome}
-use Rattle.rules.specs.declared.Outcome.TheVariants as outcomes
+use Rattle.rules.specs.Outcome.{Outcome}
 use Rattle.listing.specs.Text.{Put, numeral, spaced, mesh_text, refused_text}
 use Rattle.station.specs.Acceptance.{verdict}
 use Rattle.station.specs.declared.Fault.TheVariants.{Counts as CountsDiffer, Face, Far}
 use Rattle.station.specs.declared.Verdict.{Verdict}
 use Rattle.station.specs.declared.Verdict.TheVariants.{Yes, No, Refused}
-use Rattle.claimcheck.specs.declared.Seen.{Seen}
 
 -- ---- the text of a verdict: "yes", "no counts", "no face 3", "no coordinate 7 needs 12", or the refusal
 
@@ -38,8 +37,8 @@ pub record Claim : Type 0 where
   pub faces : List ℕ
 
 abbrev pub rims_of : Outcome → ℕ
-rims_of (outcomes.Success c) = c.rims
-rims_of (outcomes.Refused r) = 0
+rims_of (Ok c) = c.rims
+rims_of (Err r) = 0
 
 abbrev pub with_rims : ℕ → ℕ → Verdict → Verdict
 with_rims theirs ours Yes = pick (eqb theirs ours) Yes (No CountsDiffer)
@@ -55,11 +54,15 @@ abbrev pub claim_text : Bool → Verdict → List ℕ
 claim_text true v = verdict_text v
 claim_text false v = unreadable_text v
 
--- what the reader makes of a text: where it is whole, the text is, byte for byte, the listing of what was read
-pub record Heard (text : List ℕ) (s : Seen) (ps : List ℤ) (fs : List ℕ) : Type 0 where
-  pub vertices : s.counts.vertices ≤ 512
-  pub faces : s.counts.faces ≤ 512
-  pub read : s.whole ≡ true → text ≡ mesh_text s.counts (take (3 * s.counts.vertices) ps) (take (3 * s.counts.faces) fs)
+-- what the reader makes of a text: a text that is read is, byte for byte, the listing of what was read
+pub record Read (text : List ℕ) (c : Counts) (ps : List ℤ) (fs : List ℕ) : Type 0 where
+  pub vertices : c.vertices ≤ 512
+  pub faces : c.faces ≤ 512
+  pub read : text ≡ mesh_text c (take (3 * c.vertices) ps) (take (3 * c.faces) fs)
+
+abbrev pub Heard : List ℕ → opt.Option Counts → List ℤ → List ℕ → Type 0
+Heard text (opt.Some c) ps fs = Read text c ps fs
+Heard text opt.None ps fs = Unit {0}
 
 -- a listing that is read whole is, byte for byte, that of the claim which is judged
 pub record Judged (t : ℕ) (b listing before after : List ℕ) (next : ℕ) : Type 0 where

@@ -13,8 +13,8 @@ ghost use Rattle.weights.specs.Lent.{by_ring, Readable, AllReadable, lowered, Ra
 ghost use Rattle.creases.specs.Counted.{staying, by_count, Creasable};
 
 use faces::sides::VertNo;
-use weights::Stage;
-use weights::micrometres::{Whole3, at, vertex};
+use weights::micrometres::{Whole3, at};
+use weights::{Stage, Weighed};
 
 // Two sharp or rim edges: the rim's weights, with their far ends.
 fn crease(xs: &[i32], v: VertNo, a: u32, b: u32, stage: Stage) -> Whole3
@@ -23,7 +23,7 @@ fn crease(xs: &[i32], v: VertNo, a: u32, b: u32, stage: Stage) -> Whole3
     ensures near { Raised3 result }
 {
     let pair: [u32; 2] = [a, b];
-    vertex(xs, v, &pair, true, stage)
+    i32::vertex(xs, v, &pair, true, stage)
 }
 
 // Three or more: the vertex stays.
@@ -55,7 +55,7 @@ pub fn creased(
     ensures near { Raised3 result }
 {
     if k < 2 {
-        return vertex(xs, v, ring, false, stage);
+        return i32::vertex(xs, v, ring, false, stage);
     }
     if k == 2 {
         return crease(xs, v, a, b, stage);

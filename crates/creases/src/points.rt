@@ -18,8 +18,8 @@ use faces::sides::{VertNo, backward, onward};
 use levels::first_met;
 use marks::mark;
 use turns::MOST_VALENCE;
-use weights::Stage;
-use weights::micrometres::{Whole3, edge_inner, edge_rim};
+use weights::micrometres::Whole3;
+use weights::{Stage, Weighed};
 
 // Old vertex u by its ring.
 fn old_point(
@@ -73,14 +73,14 @@ fn edge_point(
     let b = VertNo(words[at + onward(s)]);
     let w = words[at + 3 * nf + s];
     if w == 0 {
-        return edge_rim(&work[from..from + 3 * nv], a, b);
+        return i32::edge_rim(&work[from..from + 3 * nv], a, b);
     }
     if mark(words, marks, s) {
-        return edge_rim(&work[from..from + 3 * nv], a, b);
+        return i32::edge_rim(&work[from..from + 3 * nv], a, b);
     }
     let d = VertNo(words[at + backward(s)]);
     let e = VertNo(words[at + backward((w - 1) as usize)]);
-    edge_inner(&work[from..from + 3 * nv], a, b, d, e)
+    i32::edge_inner(&work[from..from + 3 * nv], a, b, d, e)
 }
 
 fn old_points(
@@ -98,11 +98,9 @@ fn old_points(
     requires near { AllNear (part from (3 * nv) work.old) }
     ensures { work.new ≡ sets work.old to (sharp_olds whole words.now at marks nf (part from (3 * nv) work.old) nv) }
 {
-    let mut u = 0;
-    while u < nv {
+    for u in 0..nv {
         let p = old_point(words, at, marks, nf, nv, &work[..], from, u);
-        p.put(work, to + 3 * u);
-        u = u + 1;
+        i32::put(p, work, to + 3 * u);
     }
 }
 
@@ -123,14 +121,12 @@ fn edge_points(
     ensures { work.new ≡ sets work.old (to + 3 * nv) (sharp_edges whole words.now at marks nf (part from (3 * nv) work.old)) }
 {
     let mut k = 0;
-    let mut s = 0;
-    while s < 3 * nf {
+    for s in 0..3 * nf {
         if first_met(words[at + 3 * nf + s], s as u32) {
             let p = edge_point(words, at, marks, nf, nv, &work[..], from, s);
-            p.put(work, to + 3 * nv + 3 * k);
-            k = k + 1;
+            i32::put(p, work, to + 3 * nv + 3 * k);
+            k += 1;
         }
-        s = s + 1;
     }
 }
 

@@ -27,16 +27,10 @@ fn note(m: Met, v: u32) -> Met
     requires { m.n + 1 < 18446744073709551616 }
     ensures { result ≡ noted m v }
 {
-    if m.n == 0 {
-        return Met { n: 1, a: v, b: 0 };
-    }
-    if m.n == 1 {
-        return Met { n: 2, a: m.a, b: v };
-    }
-    Met {
-        n: m.n + 1,
-        a: m.a,
-        b: m.b,
+    match m.n {
+        0 => Met { n: 1, a: v, b: 0 },
+        1 => Met { n: 2, a: m.a, b: v },
+        n => Met { n: n + 1, ..m },
     }
 }
 
@@ -81,37 +75,30 @@ fn sharp_on(
     ensures ring { out.new ≡ sets out.old 0 (inners (part corners (3 * nf) words.now) (mesh.passed (mesh.walk (mesh.next_corner (links_in words.now links (3 * nf)) s) nf (mesh.here s)))) }
 {
     let mut at = s;
-    let mut n: usize = 0;
     let mut met = Met { n: 0, a: 0, b: 0 };
-    loop {
-        if n == nf {
-            break Walked {
-                trip: Trip::Long,
-                met,
-            };
-        }
+    for n in 0..nf {
         let v = next_vert_at(words, corners, links, nf, at);
         out[n] = v;
         met = meet(words, marks, at, met, v);
-        let m = n + 1;
         match next_corner(words, links, s, at) {
             Step::Home => {
-                break Walked {
-                    trip: Trip::Closed(m),
+                return Walked {
+                    trip: Trip::Closed(n + 1),
                     met,
                 };
             }
             Step::Off => {
-                break Walked {
-                    trip: Trip::Ended(m, at),
+                return Walked {
+                    trip: Trip::Ended(n + 1, at),
                     met,
                 };
             }
-            Step::Here(t) => {
-                at = t;
-                n = m;
-            }
+            Step::Here(t) => at = t,
         }
+    }
+    Walked {
+        trip: Trip::Long,
+        met,
     }
 }
 
@@ -152,26 +139,21 @@ fn sharp_back(
     let mut at = s;
     let mut n: usize = 0;
     let mut k: usize = 0;
+    // Stays: the walk ends by its own step; a `for` would add a bound, and an answer after it that is never given.
     loop {
         let c = backward(at);
         out[from + n] = words[corners + c];
         k = tallied(words, marks, c, k);
-        n = n + 1;
+        n += 1;
         match prev_corner(words, links, end, at) {
-            Step::Home => {
-                break;
+            Step::Home | Step::Off => {
+                return Rest {
+                    n: from + n,
+                    sharp: k,
+                };
             }
-            Step::Off => {
-                break;
-            }
-            Step::Here(t) => {
-                at = t;
-            }
+            Step::Here(t) => at = t,
         }
-    }
-    Rest {
-        n: from + n,
-        sharp: k,
     }
 }
 

@@ -3,7 +3,7 @@ use Rattle.std.specs.Prelude.{ℕ, List}
 use Rattle.rules.specs.Position.{whole}
 use Rattle.rules.specs.Levels.{positions}
 use Rattle.rules.specs.Sheets.{cut_rooms, sheet_outcome, cut_outcome}
-use Rattle.rules.specs.declared.Outcome.{Outcome}
+use Rattle.rules.specs.Outcome.{Outcome}
 use Rattle.rules.specs.Calls.{sheet_last}
 use Rattle.listing.specs.Text.{text_of}
 

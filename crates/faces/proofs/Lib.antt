@@ -5,5 +5,4 @@ pub mod Gathered
 pub mod Held
 pub mod Readable
 pub mod Retrace
-pub mod Exchanges
 pub mod Passage

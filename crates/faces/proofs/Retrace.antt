@@ -4,10 +4,12 @@ use mathlib.Core.Logic.{◌≢◌}
 use Prim.Native.Nat.{ℕ, zero, suc, ◌+◌, ◌-◌, ◌≤◌, ◌<◌}
 use native.Mathlib.Omega.{arith}
 use mathlib.Core.Bool.{Bool, true, false}
-use mathlib.Core.List.{List, [], ◌∷◌, ◌++◌}
+use mathlib.Core.List.{List, [], ◌∷◌, ◌++◌, reverse}
 use mathlib.Core.Option.{Option, none, some}
 use lib.Dec.{eqb, eqb→eq}
-use lib.ListN.{length, get_or}
+use lib.ListN.{length, get_or, take, drop}
+use lib.Seq.{sets, sets-eq, take-suc}
+use Rattle.std.proofs.lemmas.List.{reverse-append}
 use Rattle.lists.specs.Lists.{last_of, pick}
 use Rattle.lists.proofs.Places.{last-at}
 use Rattle.rules.specs.Mesh.{onward, backward, corner, Step, home, off, here, ended, walk, passed, stop_of, step_to, through, next_corner, prev_corner}
@@ -111,6 +113,22 @@ get_or-down l (suc j) (suc i) h = let e : suc j - suc i ≡ j - i = omega arith 
 pub down-same : (l k : List ℕ) (j : ℕ) → ((i : ℕ) → i ≤ j → get_or l i 0 ≡ get_or k i 0) → down_from l j ≡ down_from k j
 down-same l k zero h = ap (λ (x : ℕ). x ∷ []) (h 0 (omega arith))
 down-same l k (suc j) h = ap₂ (λ (x : ℕ) (xs : List ℕ). x ∷ xs) (h (suc j) (omega arith)) (down-same l k j (λ i g. h i (omega arith)))
+
+-- the first n, reversed
+front-down : (l : List ℕ) (j : ℕ) → j < length l → reverse (take (suc j) l) ≡ down_from l j
+front-down [] j h = absurd (omega arith)
+front-down (x ∷ l) zero h = refl
+front-down (x ∷ l) (suc j) h =
+    ap reverse (take-suc (x ∷ l) (suc j) 0 h) ∙ reverse-append (take (suc j) (x ∷ l)) (get_or (x ∷ l) (suc j) 0 ∷ [])
+    ∙ ap (λ (k : List ℕ). get_or (x ∷ l) (suc j) 0 ∷ k) (front-down (x ∷ l) j (omega arith))
+
+pub reversed_front : (l : List ℕ) (n : ℕ) → 0 < n → n ≤ length l → reverse (take n l) ++ drop n l ≡ sets l 0 (down_from l (n - 1))
+reversed_front l n h k =
+    let e : suc (n - 1) ≡ n = omega arith in
+    let d : length (down_from l (n - 1)) ≡ n = length-down l (n - 1) ∙ e in
+    let f : reverse (take n l) ≡ down_from l (n - 1) = ap (λ (z : ℕ). reverse (take z l)) (sym e) ∙ front-down l (n - 1) (omega arith) in
+    let z : 0 + length (down_from l (n - 1)) ≡ n = omega (arith, d) in
+    ap (λ (x : List ℕ). x ++ drop n l) f ∙ sym (sets-eq (down_from l (n - 1)) l 0 (omega (arith, d)) ∙ ap (λ (i : ℕ). down_from l (n - 1) ++ drop i l) z)
 
 -- ---- the ring of a rim vertex from what the walk on gathered: `prev_vert` of each corner is `next_vert` of the one before
 

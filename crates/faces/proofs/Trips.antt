@@ -62,10 +62,6 @@ module _ (next : ℕ → mesh.Step) where
       let e : m - n ≡ suc (m - (n + 1)) = omega arith in
       rw e (trip-on (m - (n + 1)) (n + 1) x (next x))
 
-  -- as many corners as it may, and no end
-  pub trip-long : (m n x : ℕ) → n ≡ m → trip_from n 0 (walk next (m - n) (here x)) ≡ trip.Long
-  trip-long m n x e = let q : m - n ≡ 0 = omega arith in rw q
-
 -- ---- the turn, of the walk on and of the walk back from its end
 
 abbrev pub turn_by : (ℕ → Trip) → Trip → Turn

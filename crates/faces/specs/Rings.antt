@@ -39,10 +39,19 @@ pub record Ends (next : ℕ → mesh.Step) (n s most : ℕ) : Type 0 where
   pub stops : stop_of (walk next n (mesh.here s)) ≢ mesh.long
   pub few : length (passed (walk next n (mesh.here s))) ≤ most
 
+-- what a walk asks of its step where there are n faces: it may be asked at each of their corners, and leads to no other
+pub record Steps (pre : ℕ → Type 0) (post : ℕ → Step → Type 0) (n : ℕ) : Type 0 where
+  pub asks : (x : ℕ) → x < 3 * n → pre x
+  pub stays : (x t : ℕ) → x < 3 * n → post x (step.Here t) → t < 3 * n
+
 abbrev pub step_of : mesh.Step → Step
 step_of mesh.home = step.Home
 step_of mesh.off = step.Off
 step_of (mesh.here s) = step.Here s
+
+-- a step answers at each corner of n faces what `next` does
+pub record Follows (post : ℕ → Step → Type 0) (n : ℕ) (next : ℕ → mesh.Step) : Type 0 where
+  pub each : (x : ℕ) (r : Step) → x < 3 * n → post x r → r ≡ step_of (next x)
 
 -- why a walk stopped, with the corners passed and the last of them
 abbrev pub trip_by : Stop → ℕ → ℕ → Trip

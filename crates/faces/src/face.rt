@@ -1,8 +1,6 @@
 // The Rust's face by value, and its six questions. The plain engine asks them, through crate `looks`; the linked one goes by side numbers and holds no face.
 ghost use Rattle.std.specs.Prelude.{◌≡◌, ◌+◌, ◌*◌, ◌≤◌, length};
-ghost use Rattle.faces.specs.declared.face.Across.TheVariants as across;
-ghost use Rattle.faces.specs.declared.face.Vert.TheVariants as vert;
-ghost use Rattle.faces.specs.Faces.{at, of_link, face_at, vnum_of, next_face_of, prev_face_of, next_vert_of, prev_vert_of, unless, other_vert_of};
+ghost use Rattle.faces.specs.Faces.{at, face_at, vnum_of, next_face_of, prev_face_of, next_vert_of, prev_vert_of, unless, other_vert_of};
 
 use crate::sides::{FaceNo, Link, VertNo, decode};
 
@@ -18,130 +16,74 @@ pub struct Face {
 }
 
 // Which corner a vertex is.
-#[derive(Clone, Copy)]
-pub enum Spot {
+#[derive(Clone, Copy, PartialEq, Eq)]
+pub enum Corner {
     First,
     Second,
     Third,
-    Absent,
 }
 
-// What lies across a side at a vertex; absent where the vertex is not on the face.
-#[derive(Clone, Copy)]
-pub enum Across {
-    To(FaceNo),
-    Rim,
-    Absent,
+// Of what stands at the three corners, that at corner k.
+fn at<T: Copy>(k: Corner, a: T, b: T, c: T) -> T
+    ensures { result ≡ at k a b c }
+{
+    match k {
+        Corner::First => a,
+        Corner::Second => b,
+        Corner::Third => c,
+    }
 }
 
-// A vertex that may be absent.
-#[derive(Clone, Copy)]
-pub enum Vert {
-    Is(VertNo),
-    Absent,
-}
-
-pub fn vnum(f: Face, v: VertNo) -> Spot
+// None where the vertex is not on the face; so too of the four that follow.
+pub fn vnum(f: Face, v: VertNo) -> Option<Corner>
     ensures { result ≡ vnum_of f v }
 {
-    if f.v0.0 == v.0 {
-        return Spot::First;
-    }
-    if f.v1.0 == v.0 {
-        return Spot::Second;
-    }
-    if f.v2.0 == v.0 {
-        return Spot::Third;
-    }
-    Spot::Absent
-}
-
-fn of_link(l: Link) -> Across
-    ensures { result ≡ of_link l }
-{
-    match l {
-        Link::To(g) => Across::To(g),
-        Link::Rim => Across::Rim,
+    if f.v0 == v {
+        Some(Corner::First)
+    } else if f.v1 == v {
+        Some(Corner::Second)
+    } else if f.v2 == v {
+        Some(Corner::Third)
+    } else {
+        None
     }
 }
 
-fn across_at(s: Spot, a: Link, b: Link, c: Link) -> Across
-    ensures { result ≡ at s (of_link a) (of_link b) (of_link c) across.Absent }
-{
-    match s {
-        Spot::First => of_link(a),
-        Spot::Second => of_link(b),
-        Spot::Third => of_link(c),
-        Spot::Absent => Across::Absent,
-    }
-}
-
-fn vert_at(s: Spot, a: VertNo, b: VertNo, c: VertNo) -> Vert
-    ensures { result ≡ at s (vert.Is a) (vert.Is b) (vert.Is c) vert.Absent }
-{
-    match s {
-        Spot::First => Vert::Is(a),
-        Spot::Second => Vert::Is(b),
-        Spot::Third => Vert::Is(c),
-        Spot::Absent => Vert::Absent,
-    }
-}
-
-pub fn next_face(f: Face, v: VertNo) -> Across
+pub fn next_face(f: Face, v: VertNo) -> Option<Link>
     ensures { result ≡ next_face_of f v }
 {
-    let a = f.f0;
-    let b = f.f1;
-    let c = f.f2;
-    across_at(vnum(f, v), a, b, c)
+    vnum(f, v).map(|k| at(k, f.f0, f.f1, f.f2))
 }
 
-pub fn prev_face(f: Face, v: VertNo) -> Across
+pub fn prev_face(f: Face, v: VertNo) -> Option<Link>
     ensures { result ≡ prev_face_of f v }
 {
-    let a = f.f0;
-    let b = f.f1;
-    let c = f.f2;
-    across_at(vnum(f, v), c, a, b)
+    vnum(f, v).map(|k| at(k, f.f2, f.f0, f.f1))
 }
 
-pub fn next_vert(f: Face, v: VertNo) -> Vert
+pub fn next_vert(f: Face, v: VertNo) -> Option<VertNo>
     ensures { result ≡ next_vert_of f v }
 {
-    let a = f.v0;
-    let b = f.v1;
-    let c = f.v2;
-    vert_at(vnum(f, v), b, c, a)
+    vnum(f, v).map(|k| at(k, f.v1, f.v2, f.v0))
 }
 
-pub fn prev_vert(f: Face, v: VertNo) -> Vert
+pub fn prev_vert(f: Face, v: VertNo) -> Option<VertNo>
     ensures { result ≡ prev_vert_of f v }
 {
-    let a = f.v0;
-    let b = f.v1;
-    let c = f.v2;
-    vert_at(vnum(f, v), c, a, b)
+    vnum(f, v).map(|k| at(k, f.v2, f.v0, f.v1))
 }
 
-fn or_else(c: VertNo, a: VertNo, b: VertNo, d: Vert) -> Vert
+// The vertex c, unless it is a or b: then d.
+fn or_else(c: VertNo, a: VertNo, b: VertNo, d: Option<VertNo>) -> Option<VertNo>
     ensures { result ≡ unless c a b d }
 {
-    if c.0 == a.0 {
-        return d;
-    }
-    if c.0 == b.0 {
-        return d;
-    }
-    Vert::Is(c)
+    if c == a || c == b { d } else { Some(c) }
 }
 
-pub fn other_vert(f: Face, a: VertNo, b: VertNo) -> Vert
+pub fn other_vert(f: Face, a: VertNo, b: VertNo) -> Option<VertNo>
     ensures { result ≡ other_vert_of f a b }
 {
-    let x = f.v0;
-    let y = f.v1;
-    let z = f.v2;
-    or_else(x, a, b, or_else(y, a, b, or_else(z, a, b, Vert::Absent)))
+    or_else(f.v0, a, b, or_else(f.v1, a, b, or_else(f.v2, a, b, None)))
 }
 
 // Face f of those whose corner words stand from `corners` on, and whose link words from `links` on.

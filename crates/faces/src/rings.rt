@@ -44,26 +44,15 @@ fn gather_on(
     ensures ring { out.new ≡ sets out.old 0 (inners (part corners (3 * nf) words.now) (mesh.passed (mesh.walk (mesh.next_corner (links_in words.now links (3 * nf)) s) nf (mesh.here s)))) }
 {
     let mut at = s;
-    let mut n: usize = 0;
-    loop {
-        if n == nf {
-            break Trip::Long;
-        }
+    for n in 0..nf {
         out[n] = next_vert_at(words, corners, links, nf, at);
-        let m = n + 1;
         match next_corner(words, links, s, at) {
-            Step::Home => {
-                break Trip::Closed(m);
-            }
-            Step::Off => {
-                break Trip::Ended(m, at);
-            }
-            Step::Here(t) => {
-                at = t;
-                n = m;
-            }
+            Step::Home => return Trip::Closed(n + 1),
+            Step::Off => return Trip::Ended(n + 1, at),
+            Step::Here(t) => at = t,
         }
     }
+    Trip::Long
 }
 
 // The first n the other way, in place: with a copy beside them its places would be kept in step all along the walk on.
@@ -71,15 +60,7 @@ pub fn upend(n: usize, s: &mut [u32])
     requires { (0 < n) × (n ≤ length s.old) }
     ensures { s.new ≡ sets s.old 0 (down_from s.old (n - 1)) }
 {
-    let mut i: usize = 0;
-    let mut j = n;
-    while i + 1 < j {
-        j = j - 1;
-        let a = s[i];
-        s[i] = s[j];
-        s[j] = a;
-        i = i + 1;
-    }
+    s[..n].reverse();
 }
 
 // The passage goes on from corner s by `prev_face`, taking `prev_vert` of each face, into `out` from `from` on, where the walk on passed `from` faces; `end` is the end corner. How many there are in all.
@@ -99,22 +80,15 @@ fn gather_back(
 {
     let mut at = s;
     let mut n: usize = 0;
+    // Stays: the walk ends by its own step; a `for` would add a bound, and an answer after it that is never given.
     loop {
         out[from + n] = words[corners + backward(at)];
-        n = n + 1;
+        n += 1;
         match prev_corner(words, links, end, at) {
-            Step::Home => {
-                break;
-            }
-            Step::Off => {
-                break;
-            }
-            Step::Here(t) => {
-                at = t;
-            }
+            Step::Home | Step::Off => return from + n,
+            Step::Here(t) => at = t,
         }
     }
-    from + n
 }
 
 // On the rim: what the walk on gathered is turned over, and the passage goes on from corner s.
@@ -140,6 +114,7 @@ fn rim_rest(
 
 // The ring of the vertex of corner s, into the front of `out`, in one passage round it: the walk on tells the kind, and has the ring of an inner vertex. It is never `Long`; with nf
 // there, and not 0, the calls take 3 to 4 % fewer instructions.
+#[inline(always)]
 pub fn one_ring(
     words: &[u32],
     corners: usize,

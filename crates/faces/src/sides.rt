@@ -5,26 +5,22 @@ ghost use Rattle.faces.specs.Faces.{face_link};
 ghost use Rattle.faces.specs.Words.{link_of};
 
 // A vertex number and a face number are distinct kinds.
-#[derive(Clone, Copy)]
+#[derive(Clone, Copy, PartialEq, Eq)]
 pub struct VertNo(pub u32);
 
-#[derive(Clone, Copy)]
+#[derive(Clone, Copy, PartialEq, Eq)]
 pub struct FaceNo(pub u32);
 
-// What lies across a side.
-#[derive(Clone, Copy)]
-pub enum Link {
-    To(FaceNo),
-    Rim,
-}
+// What lies across a side: a face, or none at the rim.
+pub type Link = Option<FaceNo>;
 
 pub fn decode(x: u32) -> Link
     ensures { result ≡ face_link (link_of x) }
 {
     if x == 0 {
-        Link::Rim
+        None
     } else {
-        Link::To(FaceNo((x - 1) / 3))
+        Some(FaceNo((x - 1) / 3))
     }
 }
 

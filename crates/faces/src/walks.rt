@@ -1,9 +1,9 @@
 // docs/RULES.md, The mesh: the walks round a vertex, from corner to corner by link words. A corner is the number of the side that leaves it.
-ghost use Rattle.std.specs.Prelude.{◌≡◌, ◌+◌, ◌-◌, ◌*◌, ◌<◌, length, get_or};
+ghost use Rattle.std.specs.Prelude.{◌≡◌, ℕ, ◌+◌, ◌-◌, ◌*◌, ◌<◌, length, get_or};
 ghost use Rattle.std.proofs.Math.Option.{some};
 ghost use Rattle.rules.specs.Mesh as mesh;
 ghost use Rattle.faces.specs.Words.{link_of, links_in};
-ghost use Rattle.faces.specs.Rings.{Walkable, step_of, trip_of, rim_turn, turn_of, valence_of};
+ghost use Rattle.faces.specs.Rings.{Walkable, Steps, Follows, step_of, trip_of, rim_turn, turn_of, valence_of};
 
 use crate::sides::backward;
 
@@ -61,58 +61,21 @@ pub enum Trip {
     Long,
 }
 
-// From corner s by `next_face`.
-fn by_next(words: &[u32], links: usize, nf: usize, s: usize) -> Trip
-    requires { Walkable words.now links nf s }
-    ensures { result ≡ trip_of (mesh.walk (mesh.next_corner (links_in words.now links (3 * nf)) s) nf (mesh.here s)) }
+// From corner s, step by step, past so many faces at most. The steps are `next_corner` or `prev_corner`, by link words or by looking.
+pub fn walk<F: Fn(usize) -> Step>(step: F, nf: usize, s: usize) -> Trip
+    requires start { s < 3 * nf }
+    requires steps { Steps (F.pre step) (F.post step) nf }
+    ensures { (next : ℕ → mesh.Step) → Follows (F.post step) nf next → result ≡ trip_of (mesh.walk next nf (mesh.here s)) }
 {
     let mut at = s;
-    let mut n: usize = 0;
-    loop {
-        if n == nf {
-            break Trip::Long;
-        }
-        let m = n + 1;
-        match next_corner(words, links, s, at) {
-            Step::Home => {
-                break Trip::Closed(m);
-            }
-            Step::Off => {
-                break Trip::Ended(m, at);
-            }
-            Step::Here(t) => {
-                at = t;
-                n = m;
-            }
+    for n in 0..nf {
+        match step(at) {
+            Step::Home => return Trip::Closed(n + 1),
+            Step::Off => return Trip::Ended(n + 1, at),
+            Step::Here(t) => at = t,
         }
     }
-}
-
-// From corner s by `prev_face`.
-fn by_prev(words: &[u32], links: usize, nf: usize, s: usize) -> Trip
-    requires { Walkable words.now links nf s }
-    ensures { result ≡ trip_of (mesh.walk (mesh.prev_corner (links_in words.now links (3 * nf)) s) nf (mesh.here s)) }
-{
-    let mut at = s;
-    let mut n: usize = 0;
-    loop {
-        if n == nf {
-            break Trip::Long;
-        }
-        let m = n + 1;
-        match prev_corner(words, links, s, at) {
-            Step::Home => {
-                break Trip::Closed(m);
-            }
-            Step::Off => {
-                break Trip::Ended(m, at);
-            }
-            Step::Here(t) => {
-                at = t;
-                n = m;
-            }
-        }
-    }
+    Trip::Long
 }
 
 // How the faces lie round a vertex: so many round an inner one; on the rim so many, and the end corner that `next_face` leads to.
@@ -127,9 +90,8 @@ pub fn rim_turn(back: Trip, end: usize) -> Turn
     ensures { result ≡ rim_turn back end }
 {
     match back {
-        Trip::Closed(_) => Turn::Endless,
         Trip::Ended(n, _) => Turn::Rim(n, end),
-        Trip::Long => Turn::Endless,
+        Trip::Closed(_) | Trip::Long => Turn::Endless,
     }
 }
 
@@ -138,9 +100,9 @@ pub fn turn_round(words: &[u32], links: usize, nf: usize, s: usize) -> Turn
     requires { Walkable words.now links nf s }
     ensures { result ≡ turn_of (mesh.fan (links_in words.now links (3 * nf)) s) }
 {
-    match by_next(words, links, nf, s) {
+    match walk(|x| next_corner(words, links, s, x), nf, s) {
         Trip::Closed(n) => Turn::Inner(n),
-        Trip::Ended(_, end) => rim_turn(by_prev(words, links, nf, end), end),
+        Trip::Ended(_, end) => rim_turn(walk(|x| prev_corner(words, links, end, x), nf, end), end),
         Trip::Long => Turn::Endless,
     }
 }

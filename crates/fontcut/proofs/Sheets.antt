@@ -1,4 +1,5 @@
 -- The text of the slots that a batch leaves is that of its sheets.
+use Rattle.std.specs.Prelude.{Err, Ok}
 use Prim.Native.Nat.{ℕ, suc, ◌+◌, ◌*◌, ◌≤◌}
 use mathlib.Core.Path.{◌≡◌, refl, sym, ap, ap₂, ◌∙◌}
 use mathlib.Core.List.{List, [], ◌∷◌, ◌++◌, append_assoc, append-nil}
@@ -11,8 +12,7 @@ use Rattle.rules.specs.Position.{whole}
 use Rattle.rules.specs.Levels.{positions as positions_of}
 use Rattle.rules.specs.Answers.{answer}
 use Rattle.rules.specs.Calls.{Lent, Buffers, sheet_last}
-use Rattle.rules.specs.declared.Outcome.{Outcome}
-use Rattle.rules.specs.declared.Outcome.TheVariants.{Success, Refused}
+use Rattle.rules.specs.Outcome.{Outcome}
 use Rattle.alphabet.specs.Sheets.{Done, answered, next, all_of, cut, nothing, taken, taken_indices, Left, SheetsCall}
 use Rattle.alphabet.proofs.Fold.{Fits, fits-nothing, fits_next, fits_all, told-next, output-here}
 use Rattle.alphabet.proofs.Alphabet.{cut-long, all_left, told-fits}
@@ -45,13 +45,13 @@ took-indices d b = refl
 
 slot-takes : (r : Outcome) (n : ℕ) (y z : List ℕ) → sums 2 (suc n) ((answer r ++ y) ++ z) ≡ taken r + sums 2 n (y ++ z)
 unfolding sums
-slot-takes (Success c) n y z = refl
-slot-takes (Refused x) n y z = refl
+slot-takes (Ok c) n y z = refl
+slot-takes (Err x) n y z = refl
 
 slot-takes-indices : (r : Outcome) (n : ℕ) (y z : List ℕ) → sums 3 (suc n) ((answer r ++ y) ++ z) ≡ taken_indices r + sums 3 n (y ++ z)
 unfolding sums
-slot-takes-indices (Success c) n y z = refl
-slot-takes-indices (Refused x) n y z = refl
+slot-takes-indices (Ok c) n y z = refl
+slot-takes-indices (Err x) n y z = refl
 
 in_all : (a b c d : ℕ) → d ≡ a + b → a + (b + c) ≡ d + c
 in_all a b c d e = omega arith
@@ -79,15 +79,15 @@ indices-taken d (b ∷ bs) z =
 slot-first : (r : Outcome) (n : ℕ) (y z : List ℕ) (ps : List ℤ) (is : List ℕ) → slot_texts (suc n) ((answer r ++ y) ++ z) ps is
     ≡ slot_text (answer r) (take (taken r) ps) (take (taken_indices r) is) ++ slot_texts n (y ++ z) (drop (taken r) ps) (drop (taken_indices r) is)
 unfolding slot_texts slot_text
-slot-first (Success c) n y z ps is = refl
-slot-first (Refused x) n y z ps is = refl
+slot-first (Ok c) n y z ps is = refl
+slot-first (Err x) n y z ps is = refl
 
 slot-own : (d : Done) (b : List ℕ) (bs : List (List ℕ)) → Fits d → (r : Outcome) → answered d b ≡ r →
     slot_text (answer r) (take (taken r) (drop d.positions (all_of (next d b) bs).room.positions)) (take (taken_indices r) (drop d.indices (all_of (next d b) bs).room.indices))
     ≡ slot_text (answer r) (positions_of whole (sheet_last b)) (sheet_last b).mesh.faces
 unfolding slot_text mesh_text rows
-slot-own d b bs h (Success c) q = let o = output-here d b bs h c q in ap₂ {C = List ℕ} (λ ps is. slot_text (answer (Success c)) ps is) o.0 o.1
-slot-own d b bs h (Refused x) q = refl
+slot-own d b bs h (Ok c) q = let o = output-here d b bs h c q in ap₂ {C = List ℕ} (λ ps is. slot_text (answer (Ok c)) ps is) o.0 o.1
+slot-own d b bs h (Err x) q = refl
 
 texts-are : (d : Done) (bs : List (List ℕ)) (z : List ℕ) → Fits d →
     slot_texts (length bs) (tolds d bs ++ z) (drop d.positions (all_of d bs).room.positions) (drop d.indices (all_of d bs).room.indices) ≡ texts d bs

@@ -4,9 +4,8 @@
 ghost use Rattle.std.specs.Prelude.{◌≡◌, ◌+◌, ◌*◌, ◌≤◌, length, get_or};
 ghost use Rattle.rules.specs.Calls.{given};
 ghost use Rattle.listing.specs.Text.{Put};
-ghost use Rattle.fontcut.specs.Output.{slot_text, slot_texts, sums, refused_by, batch_text, font_text};
+ghost use Rattle.fontcut.specs.Output.{slot_text, slot_texts, sums, batch_text, font_text};
 
-use listing::{STDERR_FILENO, STDIN_FILENO, STDOUT_FILENO};
 use rules::{Counts, Refusal};
 
 // One slot: the plate where its number is 0, else the refusal.
@@ -17,24 +16,20 @@ fn slot(five: &[u32], positions: &[i32], indices: &[u32], text: &mut [u8]) -> us
 {
     let number = five[0];
     if number != 0 {
-        let place = five[1];
         return listing::refused_text(
             text,
             Refusal {
                 number: number,
-                place: place,
+                place: five[1],
             },
         );
     }
-    let v = five[2];
-    let f = five[3];
-    let r = five[4];
     listing::mesh_text(
         text,
         Counts {
-            vertices: v,
-            faces: f,
-            rims: r,
+            vertices: five[2],
+            faces: five[3],
+            rims: five[4],
         },
         positions,
         indices,
@@ -70,20 +65,6 @@ fn slots(answers: &[u32], n: usize, positions: &[i32], indices: &[u32], text: &m
     at
 }
 
-fn refused(number: u32, text: &mut [u8]) -> usize
-    requires { 53 ≤ length text.old }
-    ensures put { Put text.old 0 (refused_by number) text.new result }
-    ensures upper_bound { result ≤ length text.old }
-{
-    listing::refused_text(
-        text,
-        Refusal {
-            number: number,
-            place: 0,
-        },
-    )
-}
-
 // Room for 4,096 faces and 4,096 vertices in all is lent; the text of 64 sheets with as many is at most 68 * 64 + 68 * 4096 + 65 * 4096 bytes.
 fn batch(bytes: &[u8], lengths: &[u32], text: &mut [u8]) -> usize
     requires { 549120 ≤ length text.old }
@@ -105,7 +86,7 @@ fn batch(bytes: &[u8], lengths: &[u32], text: &mut [u8]) -> usize
         &mut answers,
     );
     if number != 0 {
-        return refused(number, text);
+        return listing::refused_by(text, number);
     }
     slots(&answers, lengths.len(), &positions, &indices, text)
 }
@@ -118,34 +99,31 @@ fn cut(input: &[u8], text: &mut [u8]) -> usize
 {
     let n = input.len();
     if n > 262144 {
-        return refused(16, text);
+        return listing::refused_by(text, 16);
     }
     if n < 4 {
-        return refused(19, text);
+        return listing::refused_by(text, 19);
     }
     let sheets = reader::word_at(input, 0) as usize;
     if sheets > 64 {
-        return refused(19, text);
+        return listing::refused_by(text, 19);
     }
     let start = 4 + 4 * sheets;
     if n < start {
-        return refused(19, text);
+        return listing::refused_by(text, 19);
     }
     let mut lengths = [0u32; 64];
-    reader::words_from(&input[4..], sheets, &mut lengths);
+    reader::numbers_from(&input[4..], sheets, &mut lengths);
     batch(&input[start..], &lengths[..sheets], text)
 }
 
-// One byte over the most is read, so that 16 can be told.
 fn main() {
     let mut input = [0u8; 262145];
-    let n = io::read_full(STDIN_FILENO, &mut input);
+    let n = listing::input(&mut input);
     let mut text = [0u8; 549120];
     let k = cut(&input[..n], &mut text);
-    if !io::write_all(STDOUT_FILENO, &text[..k]) {
-        io::write_all(
-            STDERR_FILENO,
-            b"fontcut: the listings could not be written whole. Do not cast from them.\n",
-        );
-    }
+    listing::output(
+        &text[..k],
+        b"fontcut: the listings could not be written whole. Do not cast from them.\n",
+    );
 }

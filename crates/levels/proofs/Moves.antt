@@ -7,7 +7,6 @@ use mathlib.Core.List.{List}
 use mathlib.Core.Option.{Option, none, some}
 use native.Mathlib.Omega.{arith}
 use lib.IntN.{ℤ}
-use lib.Ieee.{Float}
 use lib.ListN.{length, get_or, take, drop}
 use lib.Seq.{sets}
 use Rattle.lists.specs.Lists.{count, keep, gather, part}
@@ -25,8 +24,8 @@ use Rattle.faces.specs.Rings.{Ringable, ring_of}
 use Rattle.faces.specs.declared.rings.Ring.{Ring}
 use Rattle.faces.proofs.Links as words
 use Rattle.faces.proofs.Held.{link-coded, room-held, corner-word, corner-below, link-word, link-bound, start-below, start-ringable}
-use Rattle.weights.specs.Lent.{by_ring, on_rim, within, Readable, AllReadable, There, AllThere}
-use Rattle.weights.proofs.Joins.{ring_at, readable, there, ring-filled, ring-readable, ring-there, moved_by, lent-rim, lent_fits, lent-ring, rim-edge, inner-edge}
+use Rattle.weights.specs.Lent.{by_ring, on_rim, within, AllOf, Readable, AllReadable}
+use Rattle.weights.proofs.Joins.{ring_at, readable, ring-filled, ring-all, moved_by, lent-rim, lent_fits, lent-ring, rim-edge, inner-edge}
 use Rattle.levels.specs.Level.{mesh_in}
 use Rattle.levels.specs.Moves.{Movable, Placed, edges_in, old_point, old_points, edge_point, edge_points}
 
@@ -76,11 +75,12 @@ module _ (w : List ℕ) (at n v : ℕ) (r : Movable w at n v) where
       ring-is : take x.n o ≡ ring_at m u
       ring-is = lent-ring w at n m r.holds r.sound r.few u h x e l o long f
 
-      pub old-whole : {xs : List ℤ} → 3 * v ≤ length xs → AllNear xs → Readable xs u × ((0 < length (take x.n o)) × AllReadable xs (take x.n o))
-      old-whole k a = rw ring-is (readable k a h, (ring-filled n m r.sound r.few u h, ring-readable n m r.sound r.few u h k a))
+      -- what a rule asks of it, where each vertex can be read
+      pub old-all : {N : Type 0} (P : List N → ℕ → Type 0) (xs : List N) → ((j : ℕ) → j < v → P xs j) → P xs u × ((0 < length (take x.n o)) × AllOf P xs (take x.n o))
+      old-all P xs f = rw ring-is (f u h, (ring-filled n m r.sound r.few u h, ring-all n m r.sound r.few u h P xs f))
 
-      pub old-single : {xs : List Float} → 3 * v ≤ length xs → There xs u × ((0 < length (take x.n o)) × AllThere xs (take x.n o))
-      old-single k = rw ring-is (there k h, (ring-filled n m r.sound r.few u h, ring-there n m r.sound r.few u h k))
+      pub old-whole : {xs : List ℤ} → 3 * v ≤ length xs → AllNear xs → Readable xs u × ((0 < length (take x.n o)) × AllReadable xs (take x.n o))
+      old-whole {xs} k a = old-all Readable xs (λ j q. readable k a q)
 
       pub moved-is : (𝓝 : Numbers) (s : Stage) (xs p : List 𝓝.N) → p ≡ three 𝓝 (by_ring 𝓝 s xs u x.rim (take x.n o)) → p ≡ moved 𝓝 s m (links (part at (3 * n) w)) xs u
       moved-is 𝓝 s xs p q = q ∙ ap₂ (λ (b : Bool) (y : List ℕ). three 𝓝 (by_ring 𝓝 s xs u b y)) (lent-rim w at n m r.holds r.sound r.few u h x e l o long f) ring-is ∙ moved_by n m r.sound r.few u h 𝓝 s xs

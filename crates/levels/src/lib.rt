@@ -2,7 +2,6 @@
 // The level is read in one part of the words and the next one is written in the other; see crate `faces`, specs/Words.
 #![tactic(auto)]
 
-pub mod micrometres;
 pub mod points;
 
 ghost use Rattle.std.specs.Prelude.{◌≡◌, ◌⊎◌, ◌+◌, ◌-◌, ◌*◌, ◌≤◌, ◌<◌, [], ◌∷◌, map, length, get_or};
@@ -47,13 +46,11 @@ fn number(words: &mut [u32], links: usize, mids: usize, sides: usize, v: usize) 
     ensures numbers { words.new ≡ sets words.old mids (map (middle v (links_in words.old links sides)) (count 0 sides)) }
 {
     let mut k = 0;
-    let mut s = 0;
-    while s < sides {
+    for s in 0..sides {
         let w = words[links + s];
         let m = edge_number(&words[..], mids, w, s as u32, (v + k) as u32);
         words[mids + s] = m;
         k = counted(first_met(w, s as u32), k);
-        s = s + 1;
     }
     k
 }
@@ -84,8 +81,7 @@ pub fn children(words: &mut [u32], at: usize, mids: usize, to: usize, nf: usize)
     requires apart { ((at + 3 * nf ≤ to) ⊎ (to + 12 * nf ≤ at)) × ((mids + 3 * nf ≤ to) ⊎ (to + 12 * nf ≤ mids)) }
     ensures { words.new ≡ sets words.old to (gather (children_by (part at (3 * nf) words.old) (part mids (3 * nf) words.old)) (count 0 nf)) }
 {
-    let mut f = 0;
-    while f < nf {
+    for f in 0..nf {
         let s = 3 * f;
         let v0 = words[at + s];
         let v1 = words[at + (s + 1)];
@@ -94,7 +90,6 @@ pub fn children(words: &mut [u32], at: usize, mids: usize, to: usize, nf: usize)
         let m1 = words[mids + (s + 1)];
         let m2 = words[mids + (s + 2)];
         put_children(words, to + 12 * f, v0, v1, v2, m0, m1, m2);
-        f = f + 1;
     }
 }
 
@@ -158,14 +153,12 @@ fn child_links(words: &mut [u32], links: usize, to: usize, nf: usize)
     requires small { (12 * nf + 16 < 4294967296) × Below (part links (3 * nf) words.old) (3 * nf + 1) }
     ensures { words.new ≡ sets words.old to (gather (links_by (part links (3 * nf) words.old)) (count 0 nf)) }
 {
-    let mut f = 0;
-    while f < nf {
+    for f in 0..nf {
         let s = 3 * f;
         let a = words[links + s];
         let b = words[links + (s + 1)];
         let c = words[links + (s + 2)];
         put_links(words, to + 12 * f, f, a, b, c);
-        f = f + 1;
     }
 }
 
@@ -176,11 +169,9 @@ pub fn old_starts(words: &mut [u32], starts: usize, to: usize, v: usize, sides: 
     requires small { (4 * sides + 12 < 4294967296) × Below (part starts v words.old) sides }
     ensures { words.new ≡ sets words.old to (map restart (part starts v words.old)) }
 {
-    let mut u = 0;
-    while u < v {
+    for u in 0..v {
         let s = words[starts + u];
         words[to + u] = restarted(s as usize) as u32;
-        u = u + 1;
     }
 }
 
@@ -192,14 +183,12 @@ fn new_starts(words: &mut [u32], links: usize, to: usize, sides: usize)
     ensures { words.new ≡ sets words.old to (map fourth (firsts (links_in words.old links sides))) }
 {
     let mut k = 0;
-    let mut s = 0;
-    while s < sides {
+    for s in 0..sides {
         let w = words[links + s];
         if first_met(w, s as u32) {
             words[to + k] = in_fourth(s) as u32;
-            k = k + 1;
+            k += 1;
         }
-        s = s + 1;
     }
 }
 

@@ -1,9 +1,11 @@
 -- What a stage of the checks answers.
+use Rattle.std.specs.Prelude.{Result, Ok, Err}
 use Rattle.std.proofs.Math.Option.{Option, none, some}
 use Rattle.rules.specs.declared.Refusal.{Refusal}
-use Rattle.limits.specs.declared.Check.{Check}
-use Rattle.limits.specs.declared.Check.TheVariants.{Pass, No}
+
+abbrev pub Check : Type 0
+Check = Result (Unit {0}) Refusal
 
 abbrev pub verdict_of : Option Refusal → Check
-verdict_of none = Pass
-verdict_of (some r) = No r
+verdict_of none = Ok tt
+verdict_of (some r) = Err r

@@ -1,26 +1,24 @@
 // docs/RULES.md, Answers: checks 1 to 6 and 13. The limits of what is given, the corners of each face, and the counts after the levels: none follows a link.
 #![tactic(auto)]
 
-ghost use Rattle.std.specs.Prelude.{◌≡◌, ◌≤◌, length};
-ghost use Rattle.rules.specs.Position.{whole, single};
+ghost use Rattle.std.specs.Prelude.{◌≡◌, ◌≤◌, length, Err};
+ghost use Rattle.rules.specs.Position.{numbers_of};
 ghost use Rattle.rules.specs.Refusals.{shape_refusal, range_refusal};
 ghost use Rattle.limits.specs.Verdicts.{verdict_of};
 
 use rules::Refusal;
+use rules::numbers::Number;
 
 pub mod list;
 pub mod size;
 
-#[derive(Clone, Copy)]
-pub enum Check {
-    Pass,
-    No(Refusal),
-}
+// What a check answers: nothing, or the refusal.
+pub type Check = Result<(), Refusal>;
 
 pub fn no(number: u32, place: u32) -> Check
-    ensures { result ≡ Check.No (record { number = number; place = place }) }
+    ensures { result ≡ Err (record { number = number; place = place }) }
 {
-    Check::No(Refusal {
+    Err(Refusal {
         number: number,
         place: place,
     })
@@ -45,41 +43,18 @@ pub fn shape(levels: u32, indices: usize, coords: usize) -> Check
     if coords / 3 > 4096 {
         return no(3, 1);
     }
-    Check::Pass
+    Ok(())
 }
 
 // 4
-pub fn whole_range(coords: &[i32]) -> Check
+pub fn range<N: Number>(coords: &[N]) -> Check
     requires { length coords.now ≤ 12288 }
-    ensures { result ≡ verdict_of (range_refusal whole coords.now) }
+    ensures { result ≡ verdict_of (range_refusal (numbers_of N.on) coords.now) }
 {
-    let mut i = 0;
-    while i < coords.len() {
-        if !whole::in_range(coords[i]) {
+    for (i, x) in coords.iter().enumerate() {
+        if !x.allowed() {
             return no(4, i as u32);
         }
-        i = i + 1;
     }
-    Check::Pass
-}
-
-// Size at most 2^40: a NaN compares with nothing.
-fn allowed(x: f32) -> bool
-    ensures { result ≡ single.allowed x }
-{
-    x <= 1099511627776.0 && -1099511627776.0 <= x
-}
-
-pub fn single_range(coords: &[f32]) -> Check
-    requires { length coords.now ≤ 12288 }
-    ensures { result ≡ verdict_of (range_refusal single coords.now) }
-{
-    let mut i = 0;
-    while i < coords.len() {
-        if !allowed(coords[i]) {
-            return no(4, i as u32);
-        }
-        i = i + 1;
-    }
-    Check::Pass
+    Ok(())
 }

@@ -11,14 +11,12 @@ pub fn beyond(indices: &[u32], v: u32) -> Check
     requires { length indices.now ≤ 12288 }
     ensures { result ≡ verdict_of (check 5 (find (λ u. leb v u) indices.now)) }
 {
-    let mut i = 0;
-    while i < indices.len() {
-        if indices[i] >= v {
+    for (i, &u) in indices.iter().enumerate() {
+        if u >= v {
             return no(5, i as u32);
         }
-        i = i + 1;
     }
-    Check::Pass
+    Ok(())
 }
 
 fn equal_corners(indices: &[u32], f: usize) -> bool
@@ -28,13 +26,7 @@ fn equal_corners(indices: &[u32], f: usize) -> bool
     let a = indices[3 * f];
     let b = indices[3 * f + 1];
     let c = indices[3 * f + 2];
-    if a == b {
-        return true;
-    }
-    if b == c {
-        return true;
-    }
-    c == a
+    a == b || b == c || c == a
 }
 
 // 6
@@ -42,12 +34,10 @@ pub fn flat(indices: &[u32]) -> Check
     requires { (length indices.now % 3 ≡ 0) × (length indices.now ≤ 12288) }
     ensures { result ≡ verdict_of (check 6 (lowest (equal_corners indices.now) (length indices.now / 3))) }
 {
-    let mut f = 0;
-    while f < indices.len() / 3 {
+    for f in 0..indices.len() / 3 {
         if equal_corners(indices, f) {
             return no(6, f as u32);
         }
-        f = f + 1;
     }
-    Check::Pass
+    Ok(())
 }

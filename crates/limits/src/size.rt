@@ -22,10 +22,8 @@ pub fn count_rims(words: &[u32], n: usize) -> u32
     ensures { result ≡ rims_in (links_in words.now 0 n) }
 {
     let mut r = 0;
-    let mut s = 0;
-    while s < n {
+    for s in 0..n {
         r = r + rim_at(words, s);
-        s = s + 1;
     }
     r
 }
@@ -39,13 +37,11 @@ pub fn grown(levels: u32, v: u32, f: u32, e: u32, r: u32) -> Counts
     let mut faces = f;
     let mut edges = e;
     let mut rims = r;
-    let mut i = 0;
-    while i < levels {
+    for _ in 0..levels {
         verts = verts + edges;
         edges = 2 * edges + 3 * faces;
         faces = 4 * faces;
         rims = 2 * rims;
-        i = i + 1;
     }
     Counts {
         vertices: verts,
@@ -58,11 +54,8 @@ pub fn grown(levels: u32, v: u32, f: u32, e: u32, r: u32) -> Counts
 pub fn size(c: Counts) -> Check
     ensures { result ≡ verdict_of (over_of c) }
 {
-    if c.faces > 32768 {
+    if c.faces > 32768 || c.vertices > 32768 {
         return no(13, 0);
     }
-    if c.vertices > 32768 {
-        return no(13, 0);
-    }
-    Check::Pass
+    Ok(())
 }

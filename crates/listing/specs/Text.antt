@@ -1,12 +1,11 @@
 -- docs/RULES.md, Answers: the text of a plate, "vertices, faces, rim sides; then x y z; then corners"; and "refused 9 at 3". Bytes of ASCII, each line ending in a
 -- line feed.
-use Rattle.std.specs.Prelude.{ℕ, zero, suc, ◌+◌, ◌-◌, ◌*◌, ◌/◌, ◌%◌, ◌≡◌, List, [], ◌∷◌, ◌++◌, ltb, ℤ, pos, negsuc, length, get_or}
+use Rattle.std.specs.Prelude.{ℕ, zero, suc, ◌+◌, ◌-◌, ◌*◌, ◌/◌, ◌%◌, ◌≡◌, List, [], ◌∷◌, ◌++◌, ltb, ℤ, pos, negsuc, length, get_or, Err, Ok}
 use Rattle.std.proofs.lemmas.List.Edits.{sets}
 use Rattle.lists.specs.Lists.{pick, rows}
 use Rattle.rules.specs.declared.Counts.{Counts}
 use Rattle.rules.specs.declared.Refusal.{Refusal}
-use Rattle.rules.specs.declared.Outcome.{Outcome}
-use Rattle.rules.specs.declared.Outcome.TheVariants.{Success, Refused}
+use Rattle.rules.specs.Outcome.{Outcome}
 
 -- the last digit
 abbrev pub digit : ℕ → List ℕ
@@ -56,9 +55,13 @@ unfoldable pub refused_text : Refusal → List ℕ
 refused_text r =
     (114 ∷ 101 ∷ 102 ∷ 117 ∷ 115 ∷ 101 ∷ 100 ∷ []) ++ (spaced (numeral r.number) ++ ((32 ∷ 97 ∷ 116 ∷ []) ++ (spaced (numeral r.place) ++ (10 ∷ []))))
 
+-- of an input as a whole: place 0
+abbrev pub refused_by : ℕ → List ℕ
+refused_by n = refused_text (record { number = n; place = 0 })
+
 abbrev pub text_of : Outcome → List ℤ → List ℕ → List ℕ
-text_of (Success c) ps fs = mesh_text c ps fs
-text_of (Refused r) ps fs = refused_text r
+text_of (Ok c) ps fs = mesh_text c ps fs
+text_of (Err r) ps fs = refused_text r
 
 -- moved up by 2^31, so that a sign is told by comparing
 abbrev pub bias : ℤ → ℕ

@@ -4,16 +4,13 @@
 
 ghost use Rattle.std.specs.Prelude.{◌≡◌, ℕ, ◌+◌, ◌*◌, ◌≤◌, ◌<◌, [], ◌∷◌, length, get_or, ℤ, pos};
 ghost use Rattle.lists.specs.Lists.{rows};
-ghost use Rattle.listing.specs.Text.{Put, bias, numeral, signed_numeral, spaced, three, mesh_line, vertex_line, face_line, mesh_text, refused_text};
+ghost use Rattle.listing.specs.Text.{Put, bias, numeral, signed_numeral, spaced, three, mesh_line, vertex_line, face_line, mesh_text, refused_text, refused_by};
 
 use rules::{Counts, Refusal};
 
-// What a program begins with: the numbers under which crate `io` reads and writes.
-pub const STDIN_FILENO: i32 = 0;
+mod programs;
 
-pub const STDOUT_FILENO: i32 = 1;
-
-pub const STDERR_FILENO: i32 = 2;
+pub use programs::{complain, complain_of, input, output};
 
 pub fn byte(text: &mut [u8], at: usize, b: u8) -> usize
     requires { at + 1 ≤ length text.old }
@@ -27,10 +24,9 @@ pub fn word(text: &mut [u8], at: usize, w: &[u8]) -> usize
     requires { at + length w.now ≤ length text.old }
     ensures { Put text.old at w.now text.new result }
 {
-    for k in 0..w.len() {
-        text[at + k] = w[k];
-    }
-    at + w.len()
+    let end = at + w.len();
+    text[at..end].copy_from_slice(w);
+    end
 }
 
 fn number(text: &mut [u8], at: usize, n: u64) -> usize
@@ -38,6 +34,7 @@ fn number(text: &mut [u8], at: usize, n: u64) -> usize
     ensures put { Put text.old at (numeral n) text.new result }
     ensures upper_bound { result ≤ at + 20 }
 {
+    // Stays: `io::decimal`, since `write!` says nothing of the bytes that it puts into a slice, and a `Vec` or `String` needs a heap.
     let mut digits = [0u8; 20];
     let k = io::decimal(n, &mut digits);
     word(text, at, &digits[..k])
@@ -168,4 +165,19 @@ pub fn refused_text(text: &mut [u8], refusal: Refusal) -> usize
     let third = word(text, second, b" at");
     let end = spaced_number(text, third, refusal.place);
     byte(text, end, b'\n')
+}
+
+// Of an input as a whole: place 0.
+pub fn refused_by(text: &mut [u8], number: u32) -> usize
+    requires { 53 ≤ length text.old }
+    ensures put { Put text.old 0 (refused_by number) text.new result }
+    ensures upper_bound { result ≤ length text.old }
+{
+    refused_text(
+        text,
+        Refusal {
+            number: number,
+            place: 0,
+        },
+    )
 }

@@ -169,7 +169,3 @@ module _ {B : Type 0} (g : ℕ → List B) (m : ℕ) (each : (k : ℕ) → lengt
 -- a part in two
 pub part-add : {A : Type 0} (l : List A) (at n m : ℕ) → part at (n + m) l ≡ part at n l ++ part (at + n) m l
 part-add {A} l at n m = take-add n m (drop at l) ∙ ap (λ (r : List A). part at n l ++ take m r) (drop-drop n at l)
-
--- three stores in a row
-pub sets-three : {A : Type 0} (l : List A) (i : ℕ) (a b c : A) → set (set (set l i a) (i + 1) b) (i + 2) c ≡ sets l i (a ∷ b ∷ c ∷ [])
-sets-three l i a b c = let e : i + 2 ≡ suc (suc i) = omega arith in rw (add-one, e)

@@ -53,22 +53,13 @@ module _ (fs : List ℕ) (s : ℕ) (h : s < length fs) where
           let k : i < length fs = rw (length-sides fs) at f.below in
           absurd (T_not (p i) (no' (p i) (b i k)) (rw (get_or-sides fs i off k) at f.passes))
 
--- ---- whether a side runs back, by the words
-
-module _ (w : List ℕ) (at n a b t o : ℕ) (h : t < n) (m : n % 3 ≡ 0) (q : o ≡ onward t) where
-  end_is : corner (part at n w) (onward t) ≡ get_or w (at + o) 0
-  end_is = get_d_part w at n (onward t) 0 (omega arith) ∙ ap (λ (z : ℕ). get_or w (at + z) 0) (sym q)
-
-  pub back_is : a ≡ get_or w (at + o) 0 → eqb b (get_or w (at + t) 0) ≡ opposite (record { from = a; to = b }) (side (part at n w) t)
-  back_is e = rw (end_is, get_d_part w at n t 0 h, eq-eqb _ _ e)
-
-  pub not_back : a ≢ get_or w (at + o) 0 → false ≡ opposite (record { from = a; to = b }) (side (part at n w) t)
-  not_back e = rw (end_is, ne_eqb _ _ e)
-
 -- ---- the side itself
 
+end_is : (w : List ℕ) (at n t o : ℕ) → t < n → n % 3 ≡ 0 → o ≡ onward t → corner (part at n w) (onward t) ≡ get_or w (at + o) 0
+end_is w at n t o h m q = get_d_part w at n (onward t) 0 (omega arith) ∙ ap (λ (z : ℕ). get_or w (at + z) 0) (sym q)
+
 pub side-is : (w : List ℕ) (at n s o : ℕ) → s < n → n % 3 ≡ 0 → o ≡ onward s → ◌≡◌ {A = Side} (record { from = get_or w (at + s) 0; to = get_or w (at + o) 0 }) (side (part at n w) s)
-side-is w at n s o h m q = rw (end_is w at n 0 0 s o h m q, get_d_part w at n s 0 h)
+side-is w at n s o h m q = rw (end_is w at n s o h m q, get_d_part w at n s 0 h)
 
 -- ---- a face, its links looked up
 
@@ -92,14 +83,14 @@ module _ (w : List ℕ) (at n : ℕ) (room : at + n ≤ length w) where
   pub word-is : (x y z : ℕ) → x < n → at + x ≡ y → x ≡ z → get_or w y 0 ≡ get_or (looked fs) z 0
   word-is x y z h e f = ap (λ (i : ℕ). get_or w i 0) (sym e) ∙ sym (get_d_part w at n x 0 h) ∙ sym (corner-word fs n long x z h f)
 
-  pub face-is : (f : ℕ) → 3 * f + 3 ≤ n → (a b c x y z : ℕ) → a ≡ get_or w (at + 3 * f) 0 → b ≡ get_or w (at + (3 * f + 1)) 0 → c ≡ get_or w (at + (3 * f + 2)) 0
+  pub face-is : (f : ℕ) → 3 * f + 3 ≤ n → (a b c x y z : ℕ) → a ≡ get_or w (at + 3 * f) 0 → b ≡ get_or w (at + 3 * f + 1) 0 → c ≡ get_or w (at + 3 * f + 2) 0
       → x ≡ coded (get_or (links fs) (3 * f) none) → y ≡ coded (get_or (links fs) (3 * f + 1) none) → z ≡ coded (get_or (links fs) (3 * f + 2) none)
       → ◌≡◌ {A = Face} (record { v0 = record { 0 = a }; v1 = record { 0 = b }; v2 = record { 0 = c }; f0 = face_link (link_of x); f1 = face_link (link_of y); f2 = face_link (link_of z) }) (face_at (looked fs) 0 n f)
   face-is f h a b c x y z A B C X Y Z =
       rw (
         A ∙ word-is (3 * f) (at + 3 * f) (0 + 3 * f) (omega arith) refl (omega arith),
-        B ∙ word-is (3 * f + 1) (at + (3 * f + 1)) (0 + 3 * f + 1) (omega arith) refl (omega arith),
-        C ∙ word-is (3 * f + 2) (at + (3 * f + 2)) (0 + 3 * f + 2) (omega arith) refl (omega arith),
+        B ∙ word-is (3 * f + 1) (at + 3 * f + 1) (0 + 3 * f + 1) (omega arith) (omega arith) (omega arith),
+        C ∙ word-is (3 * f + 2) (at + 3 * f + 2) (0 + 3 * f + 2) (omega arith) (omega arith) (omega arith),
         X ∙ sym (link-word fs n long (3 * f) (n + 3 * f) (omega arith) refl),
         Y ∙ sym (link-word fs n long (3 * f + 1) (n + 3 * f + 1) (omega arith) (omega arith)),
         Z ∙ sym (link-word fs n long (3 * f + 2) (n + 3 * f + 2) (omega arith) (omega arith)),

@@ -14,7 +14,7 @@ use Rattle.rules.proofs.Refine.{back_below}
 use Rattle.rules.proofs.Walks.{trail, all_of}
 use Rattle.faces.specs.Faces.{next_vert_of, prev_vert_of, other_vert_of}
 use Rattle.faces.specs.Rings.{step_of, trip_of, vert}
-use Rattle.faces.specs.declared.face.Vert.TheVariants as vertex
+use Rattle.std.specs.Prelude.{Some}
 use Rattle.faces.specs.declared.walks.Step.TheVariants as step
 use Rattle.faces.specs.declared.walks.Trip.TheVariants as trip
 use Rattle.faces.proofs.Links.{Below, on-link-below, step-below}
@@ -65,11 +65,11 @@ module _ (w : List ℕ) (at n : ℕ) (p : Seen w at n) where
 
   -- ---- what the Rust asks of a face whose links are not looked up
 
-  pub next-vert-is : (s : ℕ) → s < 3 * n → next_vert_of (bare_at w at (s / 3)) (vert (get_or w (at + s) 0)) ≡ vertex.Is (vert (corner fs (onward s)))
+  pub next-vert-is : (s : ℕ) → s < 3 * n → next_vert_of (bare_at w at (s / 3)) (vert (get_or w (at + s) 0)) ≡ Some (vert (corner fs (onward s)))
   next-vert-is s h = (reads w at at n p.listed.room (λ s h. p.apart.each s (rw size h)) s h).next-vert
 
-  pub prev-vert-is : (s : ℕ) → s < 3 * n → prev_vert_of (bare_at w at (s / 3)) (vert (get_or w (at + s) 0)) ≡ vertex.Is (vert (corner fs (backward s)))
+  pub prev-vert-is : (s : ℕ) → s < 3 * n → prev_vert_of (bare_at w at (s / 3)) (vert (get_or w (at + s) 0)) ≡ Some (vert (corner fs (backward s)))
   prev-vert-is s h = (reads w at at n p.listed.room (λ s h. p.apart.each s (rw size h)) s h).prev-vert
 
-  pub other-vert-is : (s : ℕ) → s < 3 * n → other_vert_of (bare_at w at (s / 3)) (vert (get_or w (at + s) 0)) (vert (get_or w (at + onward s) 0)) ≡ vertex.Is (vert (corner fs (backward s)))
+  pub other-vert-is : (s : ℕ) → s < 3 * n → other_vert_of (bare_at w at (s / 3)) (vert (get_or w (at + s) 0)) (vert (get_or w (at + onward s) 0)) ≡ Some (vert (corner fs (backward s)))
   other-vert-is s h = (reads w at at n p.listed.room (λ s h. p.apart.each s (rw size h)) s h).other-vert

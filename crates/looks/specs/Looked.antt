@@ -1,14 +1,14 @@
 -- What a look reads: a face list in words, and nothing of links.
-use Rattle.std.specs.Prelude.{ℕ, ◌+◌, ◌*◌, ◌%◌, ◌≤◌, ◌<◌, ◌≡◌, ◌≢◌, List, ◌++◌, map, length}
+use Rattle.std.specs.Prelude.{ℕ, ◌+◌, ◌*◌, ◌%◌, ◌≤◌, ◌<◌, ◌≡◌, ◌≢◌, List, ◌++◌, map, length, Option, Some, None}
+use Rattle.std.proofs.Math.Option as maybe
 use Rattle.turns.specs.Turns.{most_valence}
 use Rattle.rules.specs.Mesh.{links, endless, fan, valence}
-use Rattle.faces.specs.declared.face.Spot.{Spot}
-use Rattle.faces.specs.declared.face.Spot.TheVariants as spot
+use Rattle.faces.specs.declared.sides.VertNo.{VertNo}
+use Rattle.faces.specs.declared.face.Corner.{Corner}
+use Rattle.faces.specs.declared.face.Corner.TheVariants.{First, Second, Third}
+use Rattle.faces.specs.declared.sides.FaceNo.{FaceNo}
 use Rattle.faces.specs.declared.face.Face.{Face}
-use Rattle.faces.specs.declared.sides.Link.TheVariants as link
-use Rattle.faces.specs.declared.face.Vert.{Vert}
-use Rattle.faces.specs.declared.face.Vert.TheVariants as vertex
-use Rattle.faces.specs.Faces.{vert_at}
+use Rattle.faces.specs.Faces.{vert_at, vnum_of}
 use Rattle.lists.specs.Lists.{part}
 use Rattle.cage.specs.Chains.{Apart}
 use Rattle.faces.specs.Words.{coded}
@@ -36,17 +36,29 @@ pub record Ringed (w : List ℕ) (at n s : ℕ) : Type 0 where
   pub few : valence (fan (links (part at (3 * n) w)) s) ≤ most_valence
 
 -- the corner of face g at that spot
-abbrev pub spot_in : Spot → ℕ → ℕ
-spot_in spot.First g = 3 * g
-spot_in spot.Second g = 3 * g + 1
-spot_in spot.Third g = 3 * g + 2
-spot_in spot.Absent g = 3 * g
+abbrev pub spot_in : Option Corner → ℕ → ℕ
+spot_in (Some First) g = 3 * g
+spot_in (Some Second) g = 3 * g + 1
+spot_in (Some Third) g = 3 * g + 2
+spot_in None g = 3 * g
 
 -- a face by value whose links are not asked
 abbrev pub bare_at : List ℕ → ℕ → ℕ → Face
-bare_at w i g = record { v0 = vert_at w (i + 3 * g); v1 = vert_at w (i + 3 * g + 1); v2 = vert_at w (i + 3 * g + 2); f0 = link.Rim; f1 = link.Rim; f2 = link.Rim }
+bare_at w i g = record { v0 = vert_at w (i + 3 * g); v1 = vert_at w (i + 3 * g + 1); v2 = vert_at w (i + 3 * g + 2); f0 = None; f1 = None; f2 = None }
+
+-- the face across a side at a vertex stands in the words, where there is one
+abbrev pub Within : ℕ → ℕ → Option (Option FaceNo) → Type 0
+Within n i (Some (Some g)) = i + 3 * g.0 + 3 ≤ n
+Within n i (Some None) = Unit {0}
+Within n i None = Unit {0}
+
+-- and the corner at which vertex v stands in it
+abbrev pub stand_of : List ℕ → ℕ → VertNo → Option (Option FaceNo) → maybe.Option ℕ
+stand_of w i v (Some (Some g)) = maybe.some (spot_in (vnum_of (bare_at w i g.0) v) g.0)
+stand_of w i v (Some None) = maybe.none
+stand_of w i v None = maybe.none
 
 -- the number of a vertex
-abbrev pub number_of : Vert → ℕ
-number_of (vertex.Is v) = v.0
-number_of vertex.Absent = 0
+abbrev pub number_of : Option VertNo → ℕ
+number_of (Some v) = v.0
+number_of None = 0

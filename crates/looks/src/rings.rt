@@ -11,17 +11,14 @@ ghost use Rattle.looks.specs.Looked.{Seen, Ringed, number_of};
 
 use crate::{bare, next_corner, prev_corner};
 use creases::rings::{Met, Rest, SharpRing, meet, tallied};
-use faces::face::{Vert, next_vert, other_vert, prev_vert};
+use faces::face::{next_vert, other_vert, prev_vert};
 use faces::sides::{FaceNo, VertNo, backward, onward};
-use faces::walks::{Step, Trip, Turn, rim_turn};
+use faces::walks::{Step, Trip, Turn, rim_turn, walk};
 
-pub fn number_of(v: Vert) -> u32
+pub fn number_of(v: Option<VertNo>) -> u32
     ensures { result ≡ number_of v }
 {
-    match v {
-        Vert::Is(x) => x.0,
-        Vert::Absent => 0,
-    }
+    v.map_or(0, |x| x.0)
 }
 
 // `next_vert` of the vertex at corner s in its face, and `prev_vert`.
@@ -51,68 +48,17 @@ pub fn far_of(words: &[u32], at: usize, nf: usize, s: usize) -> u32
     number_of(other_vert(bare(words, at, FaceNo((s / 3) as u32)), a, b))
 }
 
-// From corner s by `next_face`.
-fn by_next(words: &[u32], at: usize, nf: usize, s: usize) -> Trip
-    requires { Seen words.now at nf × (s < 3 * nf) }
-    ensures { result ≡ trip_of (mesh.walk (mesh.next_corner (mesh.links (part at (3 * nf) words.now)) s) nf (mesh.here s)) }
-{
-    let mut x = s;
-    let mut n: usize = 0;
-    loop {
-        if n == nf {
-            break Trip::Long;
-        }
-        let m = n + 1;
-        match next_corner(words, at, 3 * nf, s, x) {
-            Step::Home => {
-                break Trip::Closed(m);
-            }
-            Step::Off => {
-                break Trip::Ended(m, x);
-            }
-            Step::Here(t) => {
-                x = t;
-                n = m;
-            }
-        }
-    }
-}
-
-// From corner s by `prev_face`.
-fn by_prev(words: &[u32], at: usize, nf: usize, s: usize) -> Trip
-    requires { Seen words.now at nf × (s < 3 * nf) }
-    ensures { result ≡ trip_of (mesh.walk (mesh.prev_corner (mesh.links (part at (3 * nf) words.now)) s) nf (mesh.here s)) }
-{
-    let mut x = s;
-    let mut n: usize = 0;
-    loop {
-        if n == nf {
-            break Trip::Long;
-        }
-        let m = n + 1;
-        match prev_corner(words, at, 3 * nf, s, x) {
-            Step::Home => {
-                break Trip::Closed(m);
-            }
-            Step::Off => {
-                break Trip::Ended(m, x);
-            }
-            Step::Here(t) => {
-                x = t;
-                n = m;
-            }
-        }
-    }
-}
-
 // Round the vertex of corner s.
 pub fn turn_round(words: &[u32], at: usize, nf: usize, s: usize) -> Turn
     requires { Seen words.now at nf × (s < 3 * nf) }
     ensures { result ≡ turn_of (mesh.fan (mesh.links (part at (3 * nf) words.now)) s) }
 {
-    match by_next(words, at, nf, s) {
+    match walk(|x| next_corner(words, at, 3 * nf, s, x), nf, s) {
         Trip::Closed(n) => Turn::Inner(n),
-        Trip::Ended(_, end) => rim_turn(by_prev(words, at, nf, end), end),
+        Trip::Ended(_, end) => rim_turn(
+            walk(|x| prev_corner(words, at, 3 * nf, end, x), nf, end),
+            end,
+        ),
         Trip::Long => Turn::Endless,
     }
 }
@@ -133,28 +79,23 @@ fn inner_ring(
     let mut x = s;
     let mut n: usize = 0;
     let mut met = Met { n: 0, a: 0, b: 0 };
+    // Stays: the walk ends by its own step; a `for` would add a bound, and an answer after it that is never given.
     loop {
         let v = next_of(words, at, nf, x);
         out[n] = v;
         met = meet(words, marks, x, met, v);
-        n = n + 1;
+        n += 1;
         match next_corner(words, at, 3 * nf, s, x) {
-            Step::Home => {
-                break;
+            Step::Home | Step::Off => {
+                return SharpRing {
+                    n,
+                    creases: met.n,
+                    a: met.a,
+                    b: met.b,
+                };
             }
-            Step::Off => {
-                break;
-            }
-            Step::Here(t) => {
-                x = t;
-            }
+            Step::Here(t) => x = t,
         }
-    }
-    SharpRing {
-        n,
-        creases: met.n,
-        a: met.a,
-        b: met.b,
     }
 }
 
@@ -168,24 +109,17 @@ fn ring_back(words: &[u32], at: usize, marks: usize, nf: usize, end: usize, out:
     let mut x = end;
     let mut n: usize = 0;
     let mut k: usize = 0;
+    // Stays: the walk ends by its own step; a `for` would add a bound, and an answer after it that is never given.
     loop {
         let v = prev_of(words, at, nf, x);
         out[1 + n] = v;
         k = tallied(words, marks, backward(x), k);
-        n = n + 1;
+        n += 1;
         match prev_corner(words, at, 3 * nf, end, x) {
-            Step::Home => {
-                break;
-            }
-            Step::Off => {
-                break;
-            }
-            Step::Here(t) => {
-                x = t;
-            }
+            Step::Home | Step::Off => return Rest { n, sharp: k },
+            Step::Here(t) => x = t,
         }
     }
-    Rest { n, sharp: k }
 }
 
 // The ring of a rim vertex, with its sharp and rim edges: `next_vert` of the face at its end corner, then `prev_vert` of each face.
@@ -226,7 +160,7 @@ pub fn sharp_ring(
     ensures ring { result ≡ sharp_ring_of (part at (3 * nf) words.now) (marks_in words.now marks nf) (mesh.fan (mesh.links (part at (3 * nf) words.now)) s) }
     ensures out { out.new ≡ sets out.old 0 (mesh.ring (part at (3 * nf) words.now) (mesh.fan (mesh.links (part at (3 * nf) words.now)) s)) }
 {
-    match by_next(words, at, nf, s) {
+    match walk(|x| next_corner(words, at, 3 * nf, s, x), nf, s) {
         Trip::Closed(_) => inner_ring(words, at, marks, nf, s, out),
         Trip::Ended(_, end) => rim_ring(words, at, marks, nf, end, out),
         Trip::Long => SharpRing {

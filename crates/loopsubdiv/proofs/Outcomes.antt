@@ -1,4 +1,5 @@
 -- What an outcome says: which refusal it is, or that there is none and every buffer is long enough.
+use Rattle.std.specs.Prelude.{Err, Ok}
 use mathlib.Core.Path.{◌≡◌, refl}
 use Prim.Native.Nat.{ℕ, ◌+◌, ◌*◌, ◌≤◌}
 use native.Mathlib.Omega.{arith}
@@ -13,17 +14,16 @@ use Rattle.rules.specs.Refusals.{check, ◌or_else◌, refusal, Room, short_of}
 use Rattle.rules.specs.Answers.{counted, unless, outcome, whole_rooms, single_rooms, three_each, corners, work_words, work_coords}
 use Rattle.rules.specs.declared.Refusal.{Refusal}
 use Rattle.rules.specs.declared.Counts.{Counts}
-use Rattle.rules.specs.declared.Outcome.{Outcome}
-use Rattle.rules.specs.declared.Outcome.TheVariants.{Success, Refused}
+use Rattle.rules.specs.Outcome.{Outcome}
 
 none-some : {A : Type 0} {x : A} → ◌≡◌ {A = Option A} (some x) none → ⊥
 none-some e = let z : ◌≡◌ {A = ℕ} 0 1 = cc in omega arith
 
-pub success-inv : (o : Option Refusal) (c k : Counts) → unless o (Success c) ≡ Success k → (o ≡ none) × (c ≡ k)
+pub success-inv : (o : Option Refusal) (c k : Counts) → unless o (Ok c) ≡ Ok k → (o ≡ none) × (c ≡ k)
 success-inv none c k e = (refl, cc)
 success-inv (some r) c k e = absurd (let z : ◌≡◌ {A = ℕ} 0 1 = cc in omega arith)
 
-pub refused-inv : (o : Option Refusal) (c : Counts) (r : Refusal) → unless o (Success c) ≡ Refused r → o ≡ some r
+pub refused-inv : (o : Option Refusal) (c : Counts) (r : Refusal) → unless o (Ok c) ≡ Err r → o ≡ some r
 refused-inv none c r e = absurd (let z : ◌≡◌ {A = ℕ} 0 1 = cc in omega arith)
 refused-inv (some q) c r e = cc
 
@@ -31,13 +31,13 @@ refused-inv (some q) c r e = cc
 
 module _ (𝓝 : Numbers) (rooms : Counts → List Room) (l : ℕ) (fs : List ℕ) (xs : List 𝓝.N) where
   abbrev pub judged : Outcome
-  judged = unless (refusal 𝓝 l fs xs) (Success (counted (last 𝓝 l fs xs).mesh))
+  judged = unless (refusal 𝓝 l fs xs) (Ok (counted (last 𝓝 l fs xs).mesh))
 
-  pub then-refused : (r : Refusal) → judged ≡ Refused r → outcome 𝓝 rooms l fs xs ≡ Refused r
+  pub then-refused : (r : Refusal) → judged ≡ Err r → outcome 𝓝 rooms l fs xs ≡ Err r
   unfolding outcome
   then-refused r e = rw (refused-inv (refusal 𝓝 l fs xs) (counted (last 𝓝 l fs xs).mesh) r e)
 
-  pub then-room : (c : Counts) → judged ≡ Success c → outcome 𝓝 rooms l fs xs ≡ unless (check 14 (short_of (rooms c))) (Success c)
+  pub then-room : (c : Counts) → judged ≡ Ok c → outcome 𝓝 rooms l fs xs ≡ unless (check 14 (short_of (rooms c))) (Ok c)
   unfolding outcome
   then-room c e =
       let i = success-inv (refusal 𝓝 l fs xs) (counted (last 𝓝 l fs xs).mesh) c e in
@@ -48,12 +48,12 @@ module _ (𝓝 : Numbers) (rooms : Counts → List Room) (l : ℕ) (fs : List �
     pub counts : counted (last 𝓝 l fs xs).mesh ≡ c
     pub room : short_of (rooms c) ≡ none
 
-  pub done : (c : Counts) → outcome 𝓝 rooms l fs xs ≡ Success c → Done c
+  pub done : (c : Counts) → outcome 𝓝 rooms l fs xs ≡ Ok c → Done c
   unfolding outcome
   done c e = go (refusal 𝓝 l fs xs) (short_of (rooms (counted (last 𝓝 l fs xs).mesh))) refl refl e
     where
       go : (o : Option Refusal) (s : Option ℕ) → refusal 𝓝 l fs xs ≡ o → short_of (rooms (counted (last 𝓝 l fs xs).mesh)) ≡ s
-          → unless (o or_else check 14 s) (Success (counted (last 𝓝 l fs xs).mesh)) ≡ Success c → Done c
+          → unless (o or_else check 14 s) (Ok (counted (last 𝓝 l fs xs).mesh)) ≡ Ok c → Done c
       go none none p q e = let m : counted (last 𝓝 l fs xs).mesh ≡ c = cc in record { passes = p; counts = m; room = rw m at q }
       go none (some i) p q e = absurd (let z : ◌≡◌ {A = ℕ} 0 1 = cc in omega arith)
       go (some r) s p q e = absurd (let z : ◌≡◌ {A = ℕ} 0 1 = cc in omega arith)

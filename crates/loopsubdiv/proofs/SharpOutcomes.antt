@@ -1,6 +1,7 @@
 -- Request 6: what an outcome with a list of sharp sides says; and that an empty list is no list.
+use Rattle.std.specs.Prelude.{Err, Ok}
 use mathlib.Core.Path.{◌≡◌, refl, sym, ap, ◌∙◌}
-use Prim.Native.Nat.{ℕ, ◌+◌, ◌*◌, ◌≤◌}
+use Prim.Native.Nat.{ℕ}
 use native.Mathlib.Omega.{arith}
 use mathlib.Core.List.{List, [], ◌∷◌}
 use mathlib.Core.Option.{Option, none, some}
@@ -15,8 +16,7 @@ use Rattle.rules.specs.Answers.{counted, unless, outcome}
 use Rattle.rules.specs.Sharp.{unlinked, sharp_refusal, sharp_outcome, sharp_last, sharp_positions}
 use Rattle.rules.specs.declared.Refusal.{Refusal}
 use Rattle.rules.specs.declared.Counts.{Counts}
-use Rattle.rules.specs.declared.Outcome.{Outcome}
-use Rattle.rules.specs.declared.Outcome.TheVariants.{Success, Refused}
+use Rattle.rules.specs.Outcome.{Outcome}
 use Rattle.rules.proofs.Sharp.{sharp-mesh, no-marks-positions}
 use Rattle.cage.proofs.SharpList.{sharp-passes, sharp-linked, sharp-accepted}
 use Rattle.room.specs.Held.{Planned}
@@ -25,13 +25,13 @@ use Rattle.loopsubdiv.proofs.Outcomes.{success-inv, refused-inv}
 
 module _ (rooms : Counts → List Room) (l : ℕ) (sl fs : List ℕ) (xs : List ℤ) where
   abbrev pub sharp_judged : Outcome
-  sharp_judged = unless (sharp_refusal whole l sl fs xs) (Success (counted (sharp_last whole l sl fs xs).mesh))
+  sharp_judged = unless (sharp_refusal whole l sl fs xs) (Ok (counted (sharp_last whole l sl fs xs).mesh))
 
-  pub sharp-refused : (r : Refusal) → sharp_judged ≡ Refused r → sharp_outcome whole rooms l sl fs xs ≡ Refused r
+  pub sharp-refused : (r : Refusal) → sharp_judged ≡ Err r → sharp_outcome whole rooms l sl fs xs ≡ Err r
   unfolding sharp_outcome
   sharp-refused r e = rw (refused-inv (sharp_refusal whole l sl fs xs) (counted (sharp_last whole l sl fs xs).mesh) r e)
 
-  pub sharp-room : (c : Counts) → sharp_judged ≡ Success c → sharp_outcome whole rooms l sl fs xs ≡ unless (check 14 (short_of (rooms c))) (Success c)
+  pub sharp-room : (c : Counts) → sharp_judged ≡ Ok c → sharp_outcome whole rooms l sl fs xs ≡ unless (check 14 (short_of (rooms c))) (Ok c)
   unfolding sharp_outcome
   sharp-room c e =
       let i = success-inv (sharp_refusal whole l sl fs xs) (counted (sharp_last whole l sl fs xs).mesh) c e in
@@ -53,24 +53,24 @@ module _ (rooms : Counts → List Room) (l : ℕ) (sl fs : List ℕ) (xs : List 
         room = q;
       }
 
-  pub sharp-done : (c : Counts) → sharp_outcome whole rooms l sl fs xs ≡ Success c → SharpDone c
+  pub sharp-done : (c : Counts) → sharp_outcome whole rooms l sl fs xs ≡ Ok c → SharpDone c
   unfolding sharp_outcome
   sharp-done c e = go (sharp_refusal whole l sl fs xs) (short_of (rooms (counted (sharp_last whole l sl fs xs).mesh))) refl refl e
     where
       go : (o : Option Refusal) (s : Option ℕ) → sharp_refusal whole l sl fs xs ≡ o → short_of (rooms (counted (sharp_last whole l sl fs xs).mesh)) ≡ s
-          → unless (o or_else check 14 s) (Success (counted (sharp_last whole l sl fs xs).mesh)) ≡ Success c → SharpDone c
+          → unless (o or_else check 14 s) (Ok (counted (sharp_last whole l sl fs xs).mesh)) ≡ Ok c → SharpDone c
       go none none p q e = let m : counted (sharp_last whole l sl fs xs).mesh ≡ c = cc in done-with c p m (rw m at q)
       go none (some i) p q e = absurd (let z : ◌≡◌ {A = ℕ} 0 1 = cc in omega arith)
       go (some r) s p q e = absurd (let z : ◌≡◌ {A = ℕ} 0 1 = cc in omega arith)
 
   -- and back: an accepted list on an accepted cage, with room
   pub sharp-success : (c : Counts) → refusal whole l fs xs ≡ none → find (unlinked (links fs)) sl ≡ none → counted (last whole l fs xs).mesh ≡ c → short_of (rooms c) ≡ none
-      → sharp_outcome whole rooms l sl fs xs ≡ Success c
+      → sharp_outcome whole rooms l sl fs xs ≡ Ok c
   unfolding sharp_outcome
   sharp-success c p q m s = rw (sharp-accepted l sl fs xs p q, sharp-mesh whole l sl fs xs, m, s) refl
 
   -- where a call with marks succeeds, that without succeeds with the same counts
-  pub sharp-plain : (c : Counts) → sharp_outcome whole rooms l sl fs xs ≡ Success c → outcome whole rooms l fs xs ≡ Success c
+  pub sharp-plain : (c : Counts) → sharp_outcome whole rooms l sl fs xs ≡ Ok c → outcome whole rooms l fs xs ≡ Ok c
   unfolding outcome
   sharp-plain c e = let d = sharp-done c e in rw (d.listed.passes, d.counts, d.room) refl
 

@@ -2,11 +2,13 @@
 // is touched before the outcome is known.
 #![tactic(auto)]
 
-ghost use Rattle.std.specs.Prelude.{◌≡◌, ◌+◌, ◌*◌, ◌≤◌, length, pos};
+ghost use Rattle.std.specs.Prelude.{◌≡◌, ◌+◌, ◌*◌, ◌≤◌, length, pos, Ok};
 ghost use Rattle.std.proofs.lemmas.List.Edits.{sets};
 ghost use Rattle.lists.specs.Lists.{cleared};
-ghost use Rattle.rules.specs.Position.{whole, single};
+ghost use Rattle.rules.specs.Position.{whole, single, f32};
 ghost use Rattle.rules.specs.Levels.{last};
+ghost use Rattle.rules.specs.Levels.{positions as positions_of};
+ghost use Rattle.rules.specs.Tangents.{normals as normals_of};
 ghost use Rattle.rules.specs.Answers.{outcome, whole_rooms, single_rooms};
 ghost use Rattle.rules.specs.Sharp.{sharp_last, sharp_positions, sharp_outcome};
 ghost use Rattle.rules.specs.Calls.{given, lent, buffers, SharpCall, SingleCall};
@@ -15,8 +17,7 @@ ghost use Rattle.sharp.specs.Marked.{Listed};
 
 use rules::{Counts, Outcome};
 
-pub mod micrometres;
-pub mod points;
+mod engine;
 
 // The outcome of a call on buffers of these lengths: nothing is written for it.
 pub fn judge_whole(
@@ -31,10 +32,8 @@ pub fn judge_whole(
 ) -> Outcome
     ensures { result ≡ sharp_outcome whole (whole_rooms positions out words work) levels (given sharp) (given indices) (given coords) }
 {
-    match cage::judge_sharp(levels, indices, coords, sharp) {
-        Outcome::Refused(x) => Outcome::Refused(x),
-        Outcome::Success(c) => room::whole_room(c, positions, out, words, work),
-    }
+    let c = cage::judge_sharp(levels, indices, coords, sharp)?;
+    room::whole_room(c, positions, out, words, work)
 }
 
 // The run with marks, or that without where no side is listed.
@@ -58,7 +57,7 @@ fn act(
     ensures work { work.new ≡ cleared (pos 0) (2 * third_of nv) work.old }
 {
     if sharp.len() == 0 {
-        micrometres::run(levels, indices, coords, nf, nv, positions, out, words, work);
+        engine::run(levels, indices, coords, nf, nv, positions, out, words, work);
         return;
     }
     sharp::run(
@@ -78,8 +77,8 @@ pub fn act_whole(
     words: &mut [u32],
     work: &mut [i32],
 )
-    requires { sharp_outcome whole (whole_rooms (length positions.old) (length out.old) (length words.old) (length work.old)) levels sharp.now indices.now coords.now ≡ Outcome.Success c }
-    ensures { SharpCall levels (given sharp) (given indices) (given coords) (buffers positions out words work) (Outcome.Success c) }
+    requires { sharp_outcome whole (whole_rooms (length positions.old) (length out.old) (length words.old) (length work.old)) levels sharp.now indices.now coords.now ≡ Ok c }
+    ensures { SharpCall levels (given sharp) (given indices) (given coords) (buffers positions out words work) (Ok c) }
 {
     let nf = c.faces as usize;
     let nv = c.vertices as usize;
@@ -101,7 +100,7 @@ pub fn loop_subdivide_whole(
 ) -> Outcome
     ensures { SharpCall levels (given sharp) (given indices) (given coords) (buffers positions out words work) result }
 {
-    let o = judge_whole(
+    let c = judge_whole(
         levels,
         indices,
         coords,
@@ -110,16 +109,11 @@ pub fn loop_subdivide_whole(
         out.len(),
         words.len(),
         work.len(),
+    )?;
+    act_whole(
+        c, levels, indices, coords, sharp, positions, out, words, work,
     );
-    match o {
-        Outcome::Refused(_) => o,
-        Outcome::Success(c) => {
-            act_whole(
-                c, levels, indices, coords, sharp, positions, out, words, work,
-            );
-            o
-        }
-    }
+    Ok(c)
 }
 
 fn judge_single(
@@ -134,10 +128,36 @@ fn judge_single(
 ) -> Outcome
     ensures { result ≡ outcome single (single_rooms positions normals out words work) levels indices.now coords.now }
 {
-    match cage::judge_single(levels, indices, coords) {
-        Outcome::Refused(x) => Outcome::Refused(x),
-        Outcome::Success(c) => room::single_room(c, positions, normals, out, words, work),
-    }
+    let c = cage::judge(levels, indices, coords)?;
+    room::single_room(c, positions, normals, out, words, work)
+}
+
+// The run in f32: what the last level gives, and the normals from that, before the work buffers are cleared.
+fn act_single(
+    levels: u32,
+    indices: &[u32],
+    coords: &[f32],
+    nf: usize,
+    nv: usize,
+    positions: &mut [f32],
+    normals: &mut [f32],
+    out: &mut [u32],
+    words: &mut [u32],
+    work: &mut [f32],
+)
+    requires planned { Planned single levels indices.now coords.now nf nv }
+    requires room { (2 * half_of nf nv ≤ length words.old) × ((2 * third_of nv ≤ length work.old) × ((3 * nv ≤ length positions.old) × ((3 * nv ≤ length normals.old) × (3 * nf ≤ length out.old)))) }
+    ensures positions { positions.new ≡ sets positions.old 0 (positions_of single (last single levels indices.now coords.now)) }
+    ensures normals { normals.new ≡ sets normals.old 0 (normals_of (last single levels indices.now coords.now)) }
+    ensures out { out.new ≡ sets out.old 0 (last single levels indices.now coords.now).mesh.faces }
+    ensures words { words.new ≡ cleared 0 (2 * half_of nf nv) words.old }
+    ensures work { work.new ≡ cleared (f32 0) (2 * third_of nv) work.old }
+{
+    engine::work_out(levels, indices, coords, nf, nv, positions, out, words, work);
+    let at = room::start(levels, 8 * nf + 4 * nv);
+    let third = 3 * nv;
+    tangents::normals(&words[..], at, nf, nv as u32, &positions[0..third], normals);
+    engine::clear(nf, nv, words, work);
 }
 
 // f32, with normals, as the Rust. Lent at the final F and V: positions 3V, normals 3V, out 3F, words 16F+8V, work 6V.
@@ -153,7 +173,7 @@ pub fn loop_subdivide(
 ) -> Outcome
     ensures { SingleCall levels (given indices) (given coords) (buffers positions out words work) (lent normals) result }
 {
-    let o = judge_single(
+    let c = judge_single(
         levels,
         indices,
         coords,
@@ -162,16 +182,11 @@ pub fn loop_subdivide(
         out.len(),
         words.len(),
         work.len(),
+    )?;
+    let nf = c.faces as usize;
+    let nv = c.vertices as usize;
+    act_single(
+        levels, indices, coords, nf, nv, positions, normals, out, words, work,
     );
-    match o {
-        Outcome::Refused(_) => o,
-        Outcome::Success(c) => {
-            let nf = c.faces as usize;
-            let nv = c.vertices as usize;
-            points::run(
-                levels, indices, coords, nf, nv, positions, normals, out, words, work,
-            );
-            o
-        }
-    }
+    Ok(c)
 }

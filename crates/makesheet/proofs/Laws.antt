@@ -1,4 +1,5 @@
 -- Which of 16, 15, the shape and the rest decides; and of request 8, that none is 11.
+use Rattle.std.specs.Prelude.{Err}
 use Prim.Native.Nat.{ℕ, ◌+◌, ◌-◌, ◌*◌, ◌≤◌, ◌<◌}
 use mathlib.Core.Path.{◌≡◌, refl, sym, ◌∙◌}
 use mathlib.Core.Logic.{◌≢◌}
@@ -16,9 +17,8 @@ use Rattle.rules.specs.Refusals.{shape_refusal}
 use Rattle.rules.specs.Sheets.{word_at, signed}
 use Rattle.rules.specs.declared.Refusal.{Refusal}
 use Rattle.limits.specs.Verdicts.{verdict_of}
-use Rattle.limits.specs.declared.Check.TheVariants.{No}
 use Rattle.writer.specs.Writing.{written_of, written_answer}
-use Rattle.writer.specs.declared.Written.TheVariants as written
+use Rattle.std.specs.Prelude.{Ok, Err}
 use Rattle.writer.proofs.Stage.{stage-no}
 use Rattle.writer.proofs.Writes.{write-no}
 use Rattle.writer.proofs.Trips.{one_each}
@@ -49,14 +49,14 @@ module _ (room : ℕ) (b : List ℕ) where
         unfolding made
         by-lists = rw (le-ltb most_lists (length b) h, le-ltb (length b) 12 k, eq-eqb (length b) (12 + 4 * word_at b 4 + 4 * word_at b 8) e) refl
 
-        pub by_shape : (r : Refusal) → verdict_of (shape_refusal (word_at b 0) (word_at b 8) (word_at b 4)) ≡ No r → written.Refused r ≡ made room b
+        pub by_shape : (r : Refusal) → verdict_of (shape_refusal (word_at b 0) (word_at b 8) (word_at b 4)) ≡ Err r → Err r ≡ made room b
         by_shape r s =
             let i = one_each (λ j. word_at (drop (12 + 4 * word_at b 4) b) (4 * j)) (word_at b 8) in
             let c = one_each (λ j. signed (word_at (drop 12 b) (4 * j))) (word_at b 4) in
             write-no room (word_at b 0) (corner_list b) (coord_list b) r (sym (stage-no whole (word_at b 0) (corner_list b) (coord_list b) r (rw (i, c) s))) ∙ by-lists
 
 -- what is answered as written fits
-pub fits : (room : ℕ) (b : List ℕ) (n : ℕ) → made room b ≡ written.Bytes n → n ≤ room
+pub fits : (room : ℕ) (b : List ℕ) (n : ℕ) → made room b ≡ Ok n → n ≤ room
 unfolding made
 fits room b n e =
     let x = skip (ltb most_lists (length b)) unlike e in

@@ -25,10 +25,6 @@ mark-at w at n s h =
     get_d_map (λ s. mark_of (get_or w (at + s / 3) 0) (s % 3)) (count 0 (3 * n)) s 0 false (rw (length-count 0 (3 * n)) h)
     ∙ (let e : get_or (count 0 (3 * n)) s 0 ≡ s = get_or-count 0 (3 * n) s 0 h ∙ omega arith in ap (λ (z : ℕ). mark_of (get_or w (at + z / 3) 0) (z % 3)) e)
 
--- four stores in a row
-pub sets-four : (l : List ℕ) (i a b c d : ℕ) → set (set (set (set l i a) (i + 1) b) (i + 2) c) (i + 3) d ≡ sets l i (a ∷ b ∷ c ∷ d ∷ [])
-sets-four l i a b c d = let e : i + 2 ≡ suc (suc i) = omega arith in let f : i + 3 ≡ suc (suc (suc i)) = omega arith in rw (add-one, e, f)
-
 -- the words of one face more
 pub marks-more : (l : List ℕ) (from to n f : ℕ) → f < n → (from + n ≤ to) ⊎ (to + 4 * n ≤ from) → (w x : List ℕ) → w ≡ sets l to (gather (marks_from (part from n l)) (count 0 f))
     → x ≡ sets w (to + 4 * f) (four_marks (get_or w (from + f) 0)) → x ≡ sets l to (gather (marks_from (part from n l)) (count 0 (f + 1)))

@@ -7,20 +7,23 @@ ghost use Rattle.lists.specs.Lists.{count, gather, part};
 ghost use Rattle.faces.specs.Words.{links_in};
 ghost use Rattle.marks.specs.Marks.{mark_of, four_marks, marks_from, with_bit, Marking, Listable};
 
+// Bit k of the word x.
+fn has_bit(x: u32, k: usize) -> bool
+    ensures { result ≡ mark_of x k }
+{
+    match k {
+        0 => x % 2 == 1,
+        1 => x / 2 % 2 == 1,
+        _ => x / 4 % 2 == 1,
+    }
+}
+
 // The mark of side s: bit s % 3 of the word of its face, of those that stand from `marks` on.
 pub fn mark(words: &[u32], marks: usize, s: usize) -> bool
     requires { marks + s / 3 < length words.now }
     ensures { result ≡ mark_of (get_or words.now (marks + s / 3) 0) (s % 3) }
 {
-    let w = words[marks + s / 3];
-    let k = s % 3;
-    if k == 0 {
-        return w % 2 == 1;
-    }
-    if k == 1 {
-        return w / 2 % 2 == 1;
-    }
-    w / 4 % 2 == 1
+    has_bit(words[marks + s / 3], s % 3)
 }
 
 // The words of the marks of a face's four children, from its own word x.
@@ -40,11 +43,9 @@ pub fn refine_marks(words: &mut [u32], from: usize, to: usize, nf: usize)
     requires apart { (from + nf ≤ to) ⊎ (to + 4 * nf ≤ from) }
     ensures { words.new ≡ sets words.old to (gather (marks_from (part from nf words.old)) (count 0 nf)) }
 {
-    let mut f = 0;
-    while f < nf {
+    for f in 0..nf {
         let x = words[from + f];
         put_marks(words, to + 4 * f, x);
-        f = f + 1;
     }
 }
 
@@ -53,22 +54,14 @@ fn with_bit(x: u32, k: usize) -> u32
     requires { k < 3 }
     ensures { result ≡ with_bit x k }
 {
-    if k == 0 {
-        if x % 2 == 1 {
-            return x;
-        }
-        return x + 1;
-    }
-    if k == 1 {
-        if x / 2 % 2 == 1 {
-            return x;
-        }
-        return x + 2;
-    }
-    if x / 4 % 2 == 1 {
+    if has_bit(x, k) {
         return x;
     }
-    x + 4
+    match k {
+        0 => x + 1,
+        1 => x + 2,
+        _ => x + 4,
+    }
 }
 
 // Side s is sharp, from now on.
@@ -86,12 +79,10 @@ pub fn mark_words(sharp: &[u32], words: &mut [u32], links: usize, marks: usize, 
     requires { Listable words.old links marks nf sharp.now }
     ensures { Marking words.old (links_in words.old links (3 * nf)) marks nf sharp.now words.new }
 {
-    let mut i = 0;
-    while i < sharp.len() {
-        let s = sharp[i] as usize;
+    for &side in sharp {
+        let s = side as usize;
         let t = words[links + s] as usize;
         set_mark(words, marks, s);
         set_mark(words, marks, t - 1);
-        i = i + 1;
     }
 }

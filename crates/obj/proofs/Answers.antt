@@ -1,22 +1,21 @@
 -- From what the reader saw to what it answers.
 use Prim.Native.Nat.{ℕ, zero, suc, ◌-◌, ◌/◌, ◌≤◌, ◌<◌}
-use mathlib.Core.Path.{◌≡◌, refl, ap}
+use mathlib.Core.Path.{◌≡◌, refl}
 use mathlib.Core.Bool.{true}
 use mathlib.Core.List.{List}
 use native.Mathlib.Omega.{arith}
 use lib.IntN.{ℤ, pos, ◌-ℤ◌}
 use lib.ListN.{length}
+use Rattle.std.proofs.Common.{Ok, Err}
 use borrow.Author.Tests.{lt-ltb, le-ltb}
 use mir.Syntax.{w32}
 use mir.Val.{SFits}
 use Rattle.whole.specs.Whole.{reach}
 use Rattle.obj.specs.Reading.{Reading, lists, wrong, minus, read_obj}
 use Rattle.obj.specs.Inside.{seen_of, is_whole}
-use Rattle.obj.specs.Calls.{lists_of}
-use Rattle.obj.specs.declared.Seen.{Seen}
-use Rattle.obj.specs.declared.Seen.TheVariants.{Numbers, Wrong}
-use Rattle.obj.specs.declared.Lists.{Lists}
-use Rattle.obj.specs.declared.Lists.TheVariants.{Are, Refused}
+use Rattle.obj.specs.Calls.{lists_by, lists_of}
+use Rattle.obj.specs.declared.Counted.{Counted}
+use Rattle.rules.specs.declared.Refusal.{Refusal}
 
 -- ---- a coordinate below zero
 
@@ -30,13 +29,13 @@ minus-fits (suc n) h = record { sfits = omega arith }
 
 -- ---- 23
 
-wrong-is : (r : Reading) (n : ℕ) → seen_of r ≡ Wrong n → r ≡ wrong n
-wrong-is (lists xs fs) n e = absurd (let z : ◌≡◌ {A = ℕ} 0 1 = cc in omega arith)
-wrong-is (wrong m) n e = let k : m ≡ n = cc in ap wrong k
-
-pub refused-23 : (b : List ℕ) (x f n : ℕ) → seen_of (read_obj b) ≡ Wrong n → Refused (record { number = 23; place = n }) ≡ lists_of x f b
+pub refused-23 : (b : List ℕ) (x f : ℕ) (e : Refusal) → seen_of (read_obj b) ≡ Err e → Err e ≡ lists_of x f b
 unfolding lists_of
-refused-23 b x f n e = rw (wrong-is (read_obj b) n e)
+refused-23 b x f e h = go (read_obj b) h
+  where
+    go : (r : Reading) → seen_of r ≡ Err e → Err e ≡ lists_by x f r
+    go (lists xs fs) h = cc
+    go (wrong n) h = cc
 
 -- ---- read whole: 24, or the lists
 
@@ -47,20 +46,20 @@ pub record Whole (r : Reading) (n m : ℕ) : Type 0 where
   pub coords-are : length coords ≡ n
   pub corners-are : length corners ≡ m
 
-pub whole_is : (r : Reading) (n m : ℕ) → seen_of r ≡ Numbers n m → Whole r n m
-whole_is (lists xs fs) n m e = let a : length xs ≡ n = cc in let b : length fs ≡ m = cc in record { coords = xs; corners = fs; is = refl; coords-are = a; corners-are = b }
-whole_is (wrong k) n m e = absurd (let z : ◌≡◌ {A = ℕ} 0 1 = cc in omega arith)
+pub whole_is : (r : Reading) (n : Counted) → seen_of r ≡ Ok n → Whole r n.coords n.corners
+whole_is (lists xs fs) n e = let a : length xs ≡ n.coords = cc in let b : length fs ≡ n.corners = cc in record { coords = xs; corners = fs; is = refl; coords-are = a; corners-are = b }
+whole_is (wrong k) n e = cc
 
 module _ (b : List ℕ) (x f n m : ℕ) (w : Whole (read_obj b) n m) where
-  pub no-coords : x < n → Refused (record { number = 24; place = 0 }) ≡ lists_of x f b
+  pub no-coords : x < n → Err (record { number = 24; place = 0 }) ≡ lists_of x f b
   unfolding lists_of
   no-coords h = rw (w.is, w.coords-are, lt-ltb x n h)
 
-  pub no-corners : n ≤ x → f < m → Refused (record { number = 24; place = 0 }) ≡ lists_of x f b
+  pub no-corners : n ≤ x → f < m → Err (record { number = 24; place = 0 }) ≡ lists_of x f b
   unfolding lists_of
   no-corners h k = rw (w.is, w.coords-are, w.corners-are, le-ltb x n h, lt-ltb f m k)
 
-  pub both-fit : n ≤ x → m ≤ f → Are (n / 3) (m / 3) ≡ lists_of x f b
+  pub both-fit : n ≤ x → m ≤ f → Ok (record { vertices = n / 3; faces = m / 3 }) ≡ lists_of x f b
   unfolding lists_of
   both-fit h k = rw (w.is, w.coords-are, w.corners-are, le-ltb x n h, le-ltb f m k)
 

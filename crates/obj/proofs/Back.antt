@@ -13,8 +13,7 @@ use Rattle.lists.specs.Lists.{pick}
 use Rattle.whole.specs.Whole.{reach}
 use Rattle.listing.specs.Text.{digit, decimal, numeral}
 use Rattle.spots.specs.Spots.{turn}
-use Rattle.obj.specs.Reading.{Read, Reading, next}
-use Rattle.spots.specs.declared.Spot.{Spot}
+use Rattle.obj.specs.Reading.{Read, next}
 use Rattle.spots.specs.declared.Spot.TheVariants.{Coord, Minus, Above, Under, Corner, Number}
 use Rattle.spots.proofs.Turns.{Digit}
 use Rattle.obj.proofs.Spelled.{at, above-digit}

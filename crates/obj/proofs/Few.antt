@@ -1,21 +1,22 @@
 -- What has been read is short: every place fits in 32 bits.
-use Prim.Native.Nat.{ℕ, suc, ◌+◌, ◌-◌, ◌*◌, ◌%◌, ◌≤◌}
+use Prim.Native.Nat.{ℕ, suc, ◌+◌, ◌*◌, ◌%◌, ◌≤◌}
 use mathlib.Core.Path.{◌≡◌, refl}
 use mathlib.Core.Bool.{Bool, true, false}
 use mathlib.Core.List.{List, [], ◌∷◌, ◌++◌}
 use native.Mathlib.Omega.{arith}
 use lib.Dec.{eqb}
+use Rattle.std.proofs.Common.{Option, None, Some}
 use lib.ListN.{length, length-append}
 use borrow.Author.Tests.{le-leb, lt-ltb}
 use Rattle.lists.specs.Lists.{pick}
 use Rattle.whole.specs.Whole.{reach}
 use Rattle.listing.specs.Text.{numeral, signed_numeral}
 use Rattle.listing.proofs.Laws.{numeral-few, signed-few}
-use Rattle.spots.specs.Spots.{is_digit, ends}
+use Rattle.spots.specs.Spots.{is_digit}
 use Rattle.obj.specs.Reading.{Read}
 use Rattle.obj.specs.Inside.{held_at, ended_by, coords_held, corners_held, fits}
 use Rattle.obj.specs.declared.Held.{Held}
-use Rattle.obj.specs.declared.Held.TheVariants.{Nothing, Plus, Less, Corner as CornerOf}
+use Rattle.obj.specs.declared.Held.TheVariants.{Plus, Less, Corner as CornerOf}
 use Rattle.spots.specs.declared.Spot.{Spot}
 use Rattle.spots.specs.declared.Spot.TheVariants.{Line, AfterV, Coord, Minus, Above, Under, AfterF, Corner, Number, Stuck}
 use Rattle.obj.proofs.Spelled.{lead, piece, pieces, begun, spelled, spelled_coords, spelled_corners}
@@ -91,18 +92,18 @@ held_fits _ (at-number xs fs n g m l p b) = lt-ltb 0 n p
 pub ended-fits : (s : Read) (c : ℕ) → Sound s → fits (ended_by s.spot c) ≡ true
 ended-fits s c h = go (is_digit c)
   where
-    go : (t : Bool) → fits (pick t Nothing (held_at s.spot)) ≡ true
+    go : (t : Bool) → fits (pick t None (held_at s.spot)) ≡ true
     go true = refl
     go false = held_fits s h
 
-pub one-coord : (h : Held) → length (coords_held h) ≤ 1
-one-coord Nothing = omega arith
-one-coord (Plus n) = omega arith
-one-coord (Less n) = omega arith
-one-coord (CornerOf n) = omega arith
+pub one-coord : (h : Option Held) → length (coords_held h) ≤ 1
+one-coord None = omega arith
+one-coord (Some (Plus n)) = omega arith
+one-coord (Some (Less n)) = omega arith
+one-coord (Some (CornerOf n)) = omega arith
 
-pub one-corner : (h : Held) → length (corners_held h) ≤ 1
-one-corner Nothing = omega arith
-one-corner (Plus n) = omega arith
-one-corner (Less n) = omega arith
-one-corner (CornerOf n) = omega arith
+pub one-corner : (h : Option Held) → length (corners_held h) ≤ 1
+one-corner None = omega arith
+one-corner (Some (Plus n)) = omega arith
+one-corner (Some (Less n)) = omega arith
+one-corner (Some (CornerOf n)) = omega arith

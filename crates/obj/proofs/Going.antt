@@ -7,6 +7,7 @@ use native.Mathlib.Omega.{arith}
 use native.Mathlib.Nat.{zero-add}
 use native.Mathlib.Numerals.{add-one}
 use lib.IntN.{ℤ, pos}
+use Rattle.std.proofs.Common.{Option, None, Some, Ok, Err}
 use lib.ListN.{length, get_or, drop, length-append}
 use lib.Seq.{sets, set_out, drop-cons, drop-length}
 use Rattle.lists.specs.Lists.{pick}
@@ -16,9 +17,7 @@ use Rattle.obj.specs.Reading.{Read, Reading, lists, wrong, next, begin, minus, c
 use Rattle.obj.specs.Inside.{held_at, ended_by, coords_held, corners_held, fits, seen_of, is_whole}
 use Rattle.obj.specs.Calls.{coords_of, corners_of}
 use Rattle.obj.specs.declared.Held.{Held}
-use Rattle.obj.specs.declared.Held.TheVariants.{Nothing, Plus, Less, Corner as CornerOf}
-use Rattle.obj.specs.declared.Seen.{Seen}
-use Rattle.obj.specs.declared.Seen.TheVariants.{Numbers, Wrong}
+use Rattle.obj.specs.declared.Held.TheVariants.{Plus, Less, Corner as CornerOf}
 use Rattle.spots.specs.declared.Spot.{Spot}
 use Rattle.spots.specs.declared.Spot.TheVariants.{Line, AfterV, Coord, Minus, Above, Under, AfterF, Corner, Number, Stuck}
 use Rattle.obj.proofs.Spelled.{pieces, spelled}
@@ -32,11 +31,11 @@ by-digit : {A : Type 0} (t : Bool) → [] ≡ pick {A = List A} t [] []
 by-digit true = refl
 by-digit false = refl
 
-pick-coords : (t : Bool) (h : Held) → pick t [] (coords_held h) ≡ coords_held (pick t Nothing h)
+pick-coords : (t : Bool) (h : Option Held) → pick t [] (coords_held h) ≡ coords_held (pick t None h)
 pick-coords true h = refl
 pick-coords false h = refl
 
-pick-corners : (t : Bool) (h : Held) → pick t [] (corners_held h) ≡ corners_held (pick t Nothing h)
+pick-corners : (t : Bool) (h : Option Held) → pick t [] (corners_held h) ≡ corners_held (pick t None h)
 pick-corners true h = refl
 pick-corners false h = refl
 
@@ -71,17 +70,17 @@ corner-ended : (p : Spot) (c : ℕ) → corner_by p c ≡ corners_held (ended_by
 corner-ended p c = corner-held p c ∙ pick-corners (is_digit c) (held_at p)
 
 -- a store past the end of a list changes nothing
-pub coords-out : (l : List ℤ) (i : ℕ) (h : Held) → length l ≤ i → l ≡ sets l i (coords_held h)
-coords-out l i Nothing e = refl
-coords-out l i (Plus n) e = sym (set_out l i (pos n) e)
-coords-out l i (Less n) e = sym (set_out l i (minus n) e)
-coords-out l i (CornerOf n) e = refl
+pub coords-out : (l : List ℤ) (i : ℕ) (h : Option Held) → length l ≤ i → l ≡ sets l i (coords_held h)
+coords-out l i None e = refl
+coords-out l i (Some (Plus n)) e = sym (set_out l i (pos n) e)
+coords-out l i (Some (Less n)) e = sym (set_out l i (minus n) e)
+coords-out l i (Some (CornerOf n)) e = refl
 
-pub corners-out : (l : List ℕ) (j : ℕ) (h : Held) → length l ≤ j → l ≡ sets l j (corners_held h)
-corners-out l j Nothing e = refl
-corners-out l j (Plus n) e = refl
-corners-out l j (Less n) e = refl
-corners-out l j (CornerOf n) e = sym (set_out l j (n - 1) e)
+pub corners-out : (l : List ℕ) (j : ℕ) (h : Option Held) → length l ≤ j → l ≡ sets l j (corners_held h)
+corners-out l j None e = refl
+corners-out l j (Some (Plus n)) e = refl
+corners-out l j (Some (Less n)) e = refl
+corners-out l j (Some (CornerOf n)) e = sym (set_out l j (n - 1) e)
 
 -- ---- one byte
 
@@ -167,10 +166,10 @@ module _ (b : List ℕ) (p : Spot) (i j k : ℕ) (g : Going b p i j k) where
       g.rest ∙ ap (λ (n : ℕ). read_from k g.s (drop n b)) e ∙ ap (read_from k g.s) (drop-length b)
       ∙ ap (λ (q : Spot). pick (is_line q) (lists g.s.coords g.s.corners) (wrong k)) g.spot_is
 
-  pub seen_end : k ≡ length b → pick (is_line p) (Numbers i j) (Wrong k) ≡ seen_of (read_obj b)
+  pub seen_end : k ≡ length b → pick (is_line p) (Ok (record { coords = i; corners = j })) (Err (record { number = 23; place = k })) ≡ seen_of (read_obj b)
   seen_end e = go (is_line p) ∙ sym (ap seen_of (going_end e))
     where
-      go : (t : Bool) → pick t (Numbers i j) (Wrong k) ≡ seen_of (pick t (lists g.s.coords g.s.corners) (wrong k))
+      go : (t : Bool) → pick t (Ok (record { coords = i; corners = j })) (Err (record { number = 23; place = k })) ≡ seen_of (pick t (lists g.s.coords g.s.corners) (wrong k))
       go true = rw (g.coords-are, g.corners-are)
       go false = refl
 

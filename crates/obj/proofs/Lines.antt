@@ -3,7 +3,7 @@ use Prim.Native.Nat.{ℕ, zero, suc, ◌+◌, ◌-◌, ◌/◌, ◌%◌, ◌≤�
 use mathlib.Core.Path.{◌≡◌, refl, sym, ap, ◌∙◌}
 use mathlib.Core.Bool.{Bool, true, false, not, ◌&&◌}
 use mathlib.Core.List.{List, map}
-use mathlib.Core.Option.{Option, none}
+use mathlib.Core.Option.{Option}
 use native.Mathlib.Omega.{arith}
 use native.Mathlib.Nat.{zero-add}
 use native.Mathlib.Numerals.{add-one}
@@ -22,8 +22,9 @@ use Rattle.listing.proofs.Laws.{put-put}
 use Rattle.obj.specs.Form.{obj_text, has_text}
 use Rattle.obj.specs.Inside.{Small}
 use Rattle.obj.specs.Calls.{text_of}
-use Rattle.obj.specs.declared.Text.{Text}
-use Rattle.obj.specs.declared.Text.TheVariants.{Bytes, Refused as NotWritten}
+use Rattle.std.proofs.Common.{Ok, Err}
+use Rattle.std.specs.Bool.{MatchBool}
+use Rattle.std.specs.List.{AllWithin, HoldsAt}
 use Rattle.spots.proofs.Turns.{both}
 
 -- ---- 25: a search that has found one, and one that has found none
@@ -42,6 +43,11 @@ module _ {A : Type 0} (p : A → Bool) (d : A) (l : List A) where
       go : (o : Option ℕ) → Look p l d o → true ≡ not (found o)
       go _ (nowhere n) = refl
       go _ (there k f) = absurd (let b = f.below in let e = h k b in rw e at f.passes)
+
+  -- what `all` says of a slice is what the search says of its list
+  pub by_all : (r : Bool) → MatchBool r (AllWithin (λ x. p x ≡ false) l 0 (length l)) ((k : ℕ) × (k < length l) × HoldsAt (λ x. p x ≡ true) l k) → r ≡ not (found (find p l))
+  by_all true m = none-there (λ j h. m j d (omega arith) h)
+  by_all false m = some-there m.0 m.1 (m.2 d)
 
 -- ---- a line in a buffer of its own
 
@@ -149,15 +155,15 @@ unfolding obj_text
 long-is xs fs n m a b = rw (a, b) (sym (length-append (rows (vertex_line xs) (length xs / 3)) (rows (face_line (map suc fs)) (length fs / 3))))
 
 module _ (room : ℕ) (xs : List ℤ) (fs : List ℕ) where
-  pub refused-25 : has_text xs fs ≡ false → NotWritten (record { number = 25; place = 0 }) ≡ text_of room xs fs
+  pub refused-25 : has_text xs fs ≡ false → Err (record { number = 25; place = 0 }) ≡ text_of room xs fs
   unfolding text_of
   refused-25 e = rw e
 
-  pub refused-22 : (n : ℕ) → has_text xs fs ≡ true → n ≡ length (obj_text xs fs) → room < n → NotWritten (record { number = 22; place = 0 }) ≡ text_of room xs fs
+  pub refused-22 : (n : ℕ) → has_text xs fs ≡ true → n ≡ length (obj_text xs fs) → room < n → Err (record { number = 22; place = 0 }) ≡ text_of room xs fs
   unfolding text_of
   refused-22 n e l h = rw (e, ← l, lt-ltb room n h)
 
-  pub written : (n : ℕ) → has_text xs fs ≡ true → n ≡ length (obj_text xs fs) → n ≤ room → Bytes n ≡ text_of room xs fs
+  pub written : (n : ℕ) → has_text xs fs ≡ true → n ≡ length (obj_text xs fs) → n ≤ room → Ok n ≡ text_of room xs fs
   unfolding text_of
   written n e l h = rw (e, ← l, le-ltb room n h)
 

@@ -16,7 +16,7 @@ use Rattle.rules.specs.Refusals.{most_in_mesh}
 use Rattle.listing.specs.Text.{numeral, signed_numeral}
 use Rattle.obj.specs.Form.{obj_text, has_text, Allowed}
 use Rattle.spots.specs.Spots.{turn, is_stuck, is_line, ends, after_number}
-use Rattle.obj.specs.Reading.{Read, Reading, lists, wrong, next, begin, read_from, read_obj}
+use Rattle.obj.specs.Reading.{Read, lists, wrong, next, begin, read_from, read_obj}
 use Rattle.spots.specs.declared.Spot.{Spot}
 use Rattle.spots.specs.declared.Spot.TheVariants.{Line, AfterV, Coord, Minus, Above, Under, AfterF, Corner, Number, Stuck}
 use Rattle.spots.proofs.Turns.{both}

@@ -15,7 +15,6 @@ use Rattle.whole.specs.Whole.{reach, in_range}
 use Rattle.listing.specs.Text.{numeral, signed_numeral}
 use Rattle.spots.specs.Spots.{turn, is_stuck, ends, after_number, is_digit, grows}
 use Rattle.obj.specs.Reading.{Read, next, minus}
-use Rattle.spots.specs.declared.Spot.{Spot}
 use Rattle.spots.specs.declared.Spot.TheVariants.{Line, AfterV, Coord, Minus, Above, Under, AfterF, Corner, Number, Stuck}
 use Rattle.obj.proofs.Decimals.{numeral-more, numeral-one}
 use Rattle.spots.proofs.Turns.{Digit, digit-of, both}

@@ -1,59 +1,59 @@
 -- The reader and the writer from inside: the number that a byte ends, digits that carry one on, what a passage over the text sees.
-use Rattle.std.specs.Prelude.{ℕ, ◌+◌, ◌-◌, ◌*◌, ◌<◌, ◌≡◌, Bool, true, false, List, [], ◌∷◌, ltb, leb, ℤ, pos, length, get_or}
+use Rattle.std.specs.Prelude.{ℕ, ◌+◌, ◌-◌, ◌*◌, ◌<◌, ◌≡◌, Bool, true, false, List, [], ◌∷◌, ltb, leb, ℤ, pos, length, get_or, Option, Some, None, Result, Ok, Err}
 use Rattle.lists.specs.Lists.{pick}
 use Rattle.whole.specs.Whole.{reach}
+use Rattle.rules.specs.declared.Refusal.{Refusal}
 use Rattle.spots.specs.Spots.{is_digit, grows}
 use Rattle.obj.specs.Reading.{Reading, lists, wrong, minus}
 use Rattle.spots.specs.declared.Spot.{Spot}
 use Rattle.spots.specs.declared.Spot.TheVariants.{Line, AfterV, Coord, Minus, Above, Under, AfterF, Corner, Number, Stuck}
 use Rattle.obj.specs.declared.Held.{Held}
-use Rattle.obj.specs.declared.Held.TheVariants.{Nothing, Plus, Less, Corner as CornerOf}
-use Rattle.obj.specs.declared.Seen.{Seen}
-use Rattle.obj.specs.declared.Seen.TheVariants.{Numbers, Wrong}
+use Rattle.obj.specs.declared.Held.TheVariants.{Plus, Less, Corner as CornerOf}
+use Rattle.obj.specs.declared.Counted.{Counted}
 
 -- ---- the number that a byte ends
 
 -- the number at a spot, and what it is where it ends
-abbrev pub held_at : Spot → Held
-held_at Line = Nothing
-held_at AfterV = Nothing
-held_at Coord = Nothing
-held_at Minus = Nothing
-held_at (Above n) = Plus n
-held_at (Under n) = Less n
-held_at AfterF = Nothing
-held_at Corner = Nothing
-held_at (Number n) = CornerOf n
-held_at Stuck = Nothing
+abbrev pub held_at : Spot → Option Held
+held_at Line = None
+held_at AfterV = None
+held_at Coord = None
+held_at Minus = None
+held_at (Above n) = Some (Plus n)
+held_at (Under n) = Some (Less n)
+held_at AfterF = None
+held_at Corner = None
+held_at (Number n) = Some (CornerOf n)
+held_at Stuck = None
 
 -- the number that the byte c ends
-abbrev pub ended_by : Spot → ℕ → Held
-ended_by p c = pick (is_digit c) Nothing (held_at p)
+abbrev pub ended_by : Spot → ℕ → Option Held
+ended_by p c = pick (is_digit c) None (held_at p)
 
-abbrev pub coords_held : Held → List ℤ
-coords_held Nothing = []
-coords_held (Plus n) = pos n ∷ []
-coords_held (Less n) = minus n ∷ []
-coords_held (CornerOf n) = []
+abbrev pub coords_held : Option Held → List ℤ
+coords_held None = []
+coords_held (Some (Plus n)) = pos n ∷ []
+coords_held (Some (Less n)) = minus n ∷ []
+coords_held (Some (CornerOf n)) = []
 
-abbrev pub corners_held : Held → List ℕ
-corners_held Nothing = []
-corners_held (Plus n) = []
-corners_held (Less n) = []
-corners_held (CornerOf n) = (n - 1) ∷ []
+abbrev pub corners_held : Option Held → List ℕ
+corners_held None = []
+corners_held (Some (Plus n)) = []
+corners_held (Some (Less n)) = []
+corners_held (Some (CornerOf n)) = (n - 1) ∷ []
 
 -- a number that the code can hold
-abbrev pub fits : Held → Bool
-fits Nothing = true
-fits (Plus n) = leb n reach
-fits (Less n) = leb n reach
-fits (CornerOf n) = ltb 0 n
+abbrev pub fits : Option Held → Bool
+fits None = true
+fits (Some (Plus n)) = leb n reach
+fits (Some (Less n)) = leb n reach
+fits (Some (CornerOf n)) = ltb 0 n
 
 -- ---- what a passage over the text sees
 
-abbrev pub seen_of : Reading → Seen
-seen_of (lists xs fs) = Numbers (length xs) (length fs)
-seen_of (wrong n) = Wrong n
+abbrev pub seen_of : Reading → Result Counted Refusal
+seen_of (lists xs fs) = Ok (record { coords = length xs; corners = length fs })
+seen_of (wrong n) = Err (record { number = 23; place = n })
 
 abbrev pub is_whole : Reading → Bool
 is_whole (lists xs fs) = true

@@ -13,31 +13,23 @@ mod numbers;
 mod reading;
 mod writing;
 
-// So many bytes stand at the front of the buffer, or a refusal.
+// How many vertices and faces were read.
 #[derive(Clone, Copy)]
-pub enum Text {
-    Bytes(u32),
-    Refused(Refusal),
+pub struct Lists {
+    pub vertices: u32,
+    pub faces: u32,
 }
 
-// How many vertices and faces were read, or a refusal.
+// How many numbers a text has.
 #[derive(Clone, Copy)]
-pub enum Lists {
-    Are { vertices: u32, faces: u32 },
-    Refused(Refusal),
+struct Counted {
+    coords: u32,
+    corners: u32,
 }
 
-// How many numbers a text has, or the place where it goes wrong.
-#[derive(Clone, Copy)]
-enum Seen {
-    Numbers { coords: u32, corners: u32 },
-    Wrong(u32),
-}
-
-// The number that a byte ends.
+// A number that a byte ends.
 #[derive(Clone, Copy)]
 enum Held {
-    Nothing,
     Plus(u32),
     Less(u32),
     Corner(u32),
@@ -57,12 +49,12 @@ struct Stand {
     at: usize,
 }
 
-// 25, then 22, then the text at the front of the buffer.
-pub fn write_obj(coords: &[i32], corners: &[u32], text: &mut [u8]) -> Text
+// 25, then 22, then the text at the front of the buffer, and how many bytes it has.
+pub fn write_obj(coords: &[i32], corners: &[u32], text: &mut [u8]) -> Result<u32, Refusal>
     ensures { TextCall (given coords) (given corners) (lent text) result }
 {
     if !objable(coords, corners) {
-        return Text::Refused(Refusal {
+        return Err(Refusal {
             number: 25,
             place: 0,
         });
@@ -71,49 +63,39 @@ pub fn write_obj(coords: &[i32], corners: &[u32], text: &mut [u8]) -> Text
     let nf = corners.len() / 3;
     let n = vertex_lengths(coords, nv) + face_lengths(corners, nf);
     if text.len() < n {
-        return Text::Refused(Refusal {
+        return Err(Refusal {
             number: 22,
             place: 0,
         });
     }
     let at = put_vertices(text, coords, nv);
     put_faces(text, at, corners, nf);
-    Text::Bytes(n as u32)
+    Ok(n as u32)
 }
 
 // 23, then 24, then the lists at the front of theirs: the text is read twice, since a refusal may write nothing. One function makes both passages: what it
 // calls is then called from one place and inlined, and the spot stays in registers.
-pub fn read_obj(text: &[u8], coords: &mut [i32], corners: &mut [u32]) -> Lists
+pub fn read_obj(text: &[u8], coords: &mut [i32], corners: &mut [u32]) -> Result<Lists, Refusal>
     ensures { ListsCall (given text) (lent coords) (lent corners) result }
 {
     let mut no_coords = [0i32; 0];
     let mut no_corners = [0u32; 0];
-    match pass(text, &mut no_coords, &mut no_corners) {
-        Seen::Wrong(at) => Lists::Refused(Refusal {
-            number: 23,
-            place: at,
-        }),
-        Seen::Numbers {
-            coords: n,
-            corners: m,
-        } => {
-            if coords.len() < n as usize {
-                return Lists::Refused(Refusal {
-                    number: 24,
-                    place: 0,
-                });
-            }
-            if corners.len() < m as usize {
-                return Lists::Refused(Refusal {
-                    number: 24,
-                    place: 0,
-                });
-            }
-            pass(text, coords, corners);
-            Lists::Are {
-                vertices: n / 3,
-                faces: m / 3,
-            }
-        }
+    let seen = pass(text, &mut no_coords, &mut no_corners)?;
+    if coords.len() < seen.coords as usize {
+        return Err(Refusal {
+            number: 24,
+            place: 0,
+        });
     }
+    if corners.len() < seen.corners as usize {
+        return Err(Refusal {
+            number: 24,
+            place: 0,
+        });
+    }
+    pass(text, coords, corners)?;
+    Ok(Lists {
+        vertices: seen.coords / 3,
+        faces: seen.corners / 3,
+    })
 }

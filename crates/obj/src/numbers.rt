@@ -10,60 +10,48 @@ use super::Held;
 use spots::Spot;
 
 // The number at a spot.
-fn held_at(spot: Spot) -> Held
+fn held_at(spot: Spot) -> Option<Held>
     ensures { result ≡ held_at spot }
 {
     match spot {
-        Spot::Line => Held::Nothing,
-        Spot::AfterV => Held::Nothing,
-        Spot::Coord => Held::Nothing,
-        Spot::Minus => Held::Nothing,
-        Spot::Above(n) => Held::Plus(n),
-        Spot::Under(n) => Held::Less(n),
-        Spot::AfterF => Held::Nothing,
-        Spot::Corner => Held::Nothing,
-        Spot::Number(n) => Held::Corner(n),
-        Spot::Stuck => Held::Nothing,
+        Spot::Above(n) => Some(Held::Plus(n)),
+        Spot::Under(n) => Some(Held::Less(n)),
+        Spot::Number(n) => Some(Held::Corner(n)),
+        _ => None,
     }
 }
 
 fn is_digit(c: u32) -> bool
     ensures { result ≡ is_digit_of c }
 {
-    if c < 48 {
-        return false;
-    }
-    c <= 57
+    c >= 48 && c <= 57
 }
 
-pub fn ended(spot: Spot, c: u32) -> Held
+pub fn ended(spot: Spot, c: u32) -> Option<Held>
     ensures { result ≡ ended_by spot c }
 {
     if is_digit(c) {
-        return Held::Nothing;
+        return None;
     }
     held_at(spot)
 }
 
-pub fn coords_held(h: Held) -> u32
+pub fn coords_held(h: Option<Held>) -> u32
     ensures { result ≡ length (coords_held h) }
 {
     match h {
-        Held::Nothing => 0,
-        Held::Plus(_) => 1,
-        Held::Less(_) => 1,
-        Held::Corner(_) => 0,
+        Some(Held::Plus(_)) => 1,
+        Some(Held::Less(_)) => 1,
+        _ => 0,
     }
 }
 
-pub fn corners_held(h: Held) -> u32
+pub fn corners_held(h: Option<Held>) -> u32
     ensures { result ≡ length (corners_held h) }
 {
     match h {
-        Held::Nothing => 0,
-        Held::Plus(_) => 0,
-        Held::Less(_) => 0,
-        Held::Corner(_) => 1,
+        Some(Held::Corner(_)) => 1,
+        _ => 0,
     }
 }
 
@@ -83,35 +71,35 @@ fn less(n: u32) -> i32
 
 // A number that the list has no place for is let go: the first passage over a text stores nothing, and is lent lists of no length. What ends no number is told apart first, since most
 // bytes end none.
-pub fn store_coord(coords: &mut [i32], i: u32, h: Held)
+pub fn store_coord(coords: &mut [i32], i: u32, h: Option<Held>)
     requires { fits h ≡ true }
     ensures { coords.new ≡ sets coords.old i (coords_held h) }
 {
     match h {
-        Held::Nothing => {}
-        Held::Plus(n) => {
+        None => {}
+        Some(Held::Plus(n)) => {
             if (i as usize) < coords.len() {
                 coords[i as usize] = plus(n);
             }
         }
-        Held::Less(n) => {
+        Some(Held::Less(n)) => {
             if (i as usize) < coords.len() {
                 coords[i as usize] = less(n);
             }
         }
-        Held::Corner(_) => {}
+        Some(Held::Corner(_)) => {}
     }
 }
 
-pub fn store_corner(corners: &mut [u32], j: u32, h: Held)
+pub fn store_corner(corners: &mut [u32], j: u32, h: Option<Held>)
     requires { fits h ≡ true }
     ensures { corners.new ≡ sets corners.old j (corners_held h) }
 {
     match h {
-        Held::Nothing => {}
-        Held::Plus(_) => {}
-        Held::Less(_) => {}
-        Held::Corner(n) => {
+        None => {}
+        Some(Held::Plus(_)) => {}
+        Some(Held::Less(_)) => {}
+        Some(Held::Corner(n)) => {
             if (j as usize) < corners.len() {
                 corners[j as usize] = n - 1;
             }

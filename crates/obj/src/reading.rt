@@ -1,5 +1,5 @@
 // A passage over the text.
-ghost use Rattle.std.specs.Prelude.{◌≡◌, true, ◌/◌, ◌≤◌, ◌<◌, length};
+ghost use Rattle.std.specs.Prelude.{◌≡◌, true, ◌/◌, ◌≤◌, ◌<◌, length, Ok, Err};
 ghost use Rattle.std.proofs.lemmas.List.Edits.{sets};
 ghost use Rattle.lists.specs.Lists.{pick};
 ghost use Rattle.rules.specs.Calls.{given};
@@ -9,7 +9,8 @@ ghost use Rattle.obj.specs.Inside.{Run, Onward, seen_of, is_whole};
 ghost use Rattle.obj.specs.Calls.{coords_of, corners_of};
 
 use super::numbers::{coords_held, corners_held, ended, store_coord, store_corner};
-use super::{Held, Reached, Seen, Stand};
+use super::{Counted, Reached, Stand};
+use rules::Refusal;
 use spots::{Spot, grown, is_line, is_stuck, turn};
 
 fn wide(c: u8) -> u32
@@ -24,16 +25,16 @@ fn digits(text: &[u8], from: usize, first: u32, most: u32) -> Reached
     ensures { Run (given text) most first from result.n result.at }
 {
     let mut n = first;
-    let mut at = from;
-    while at < text.len() {
-        let m = grown(n, wide(text[at]), most);
-        if m == 0 {
-            return Reached { n: n, at: at };
+    for at in from..text.len() {
+        match grown(n, wide(text[at]), most) {
+            Some(m) => n = m,
+            None => return Reached { n: n, at: at },
         }
-        n = m;
-        at = at + 1;
     }
-    Reached { n: n, at: at }
+    Reached {
+        n: n,
+        at: text.len(),
+    }
 }
 
 // Past the digits of a number that has begun; v is the number of vertices.
@@ -44,49 +45,53 @@ fn onward(text: &[u8], at: usize, spot: Spot, v: u32) -> Stand
     match spot {
         Spot::Above(n) => {
             let d = digits(text, at, n, 1000000000);
-            let m = d.n;
-            let k = d.at;
             Stand {
-                spot: Spot::Above(m),
-                at: k,
+                spot: Spot::Above(d.n),
+                at: d.at,
             }
         }
         Spot::Under(n) => {
             let d = digits(text, at, n, 1000000000);
-            let m = d.n;
-            let k = d.at;
             Stand {
-                spot: Spot::Under(m),
-                at: k,
+                spot: Spot::Under(d.n),
+                at: d.at,
             }
         }
         Spot::Number(n) => {
             let d = digits(text, at, n, v);
-            let m = d.n;
-            let k = d.at;
             Stand {
-                spot: Spot::Number(m),
-                at: k,
+                spot: Spot::Number(d.n),
+                at: d.at,
             }
         }
         _ => Stand { spot: spot, at: at },
     }
 }
 
-fn seen_at(spot: Spot, at: u32, i: u32, j: u32) -> Seen
-    ensures { result ≡ pick (is_line_at spot) (Seen.Numbers i j) (Seen.Wrong at) }
+// 23: not of the form, from this byte on.
+fn wrong_at(at: u32) -> Refusal
+    ensures { result ≡ record { number = 23; place = at } }
 {
-    if is_line(spot) {
-        return Seen::Numbers {
-            coords: i,
-            corners: j,
-        };
+    Refusal {
+        number: 23,
+        place: at,
     }
-    Seen::Wrong(at)
 }
 
-// One passage over the text. It answers how many numbers there are, or the place of 23; a text that is of the form is left in the lists, as far as they go.
-pub fn pass(text: &[u8], coords: &mut [i32], corners: &mut [u32]) -> Seen
+fn seen_at(spot: Spot, at: u32, i: u32, j: u32) -> Result<Counted, Refusal>
+    ensures { result ≡ pick (is_line_at spot) (Ok (record { coords = i; corners = j })) (Err (record { number = 23; place = at })) }
+{
+    if !is_line(spot) {
+        return Err(wrong_at(at));
+    }
+    Ok(Counted {
+        coords: i,
+        corners: j,
+    })
+}
+
+// One passage over the text. It answers how many numbers there are, or 23; a text that is of the form is left in the lists, as far as they go.
+pub fn pass(text: &[u8], coords: &mut [i32], corners: &mut [u32]) -> Result<Counted, Refusal>
     ensures seen { result ≡ seen_of (read_obj (given text)) }
     ensures coords { is_whole (read_obj (given text)) ≡ true → coords.new ≡ sets coords.old 0 (coords_of (read_obj (given text))) }
     ensures corners { is_whole (read_obj (given text)) ≡ true → corners.new ≡ sets corners.old 0 (corners_of (read_obj (given text))) }
@@ -95,11 +100,12 @@ pub fn pass(text: &[u8], coords: &mut [i32], corners: &mut [u32]) -> Seen
     let mut i = 0u32;
     let mut j = 0u32;
     let mut at = 0;
+    // Stays: a run of digits is passed at one go, so the next byte is not always the one after.
     while at < text.len() {
         let c = wide(text[at]);
         let to = turn(i, j, spot, c);
         if is_stuck(to) {
-            return Seen::Wrong(at as u32);
+            return Err(wrong_at(at as u32));
         }
         let h = ended(spot, c);
         store_coord(coords, i, h);

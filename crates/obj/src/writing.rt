@@ -9,27 +9,13 @@ ghost use Rattle.obj.specs.Inside.{Small};
 fn all_in_range(xs: &[i32]) -> bool
     ensures { result ≡ not (found (find (λ x. not (in_range x)) xs.now)) }
 {
-    let mut i = 0;
-    while i < xs.len() {
-        if !whole::in_range(xs[i]) {
-            return false;
-        }
-        i = i + 1;
-    }
-    true
+    xs.iter().all(|x| whole::in_range(*x))
 }
 
 fn all_below(fs: &[u32], v: u32) -> bool
     ensures { result ≡ not (found (find (λ c. leb v c) fs.now)) }
 {
-    let mut i = 0;
-    while i < fs.len() {
-        if v <= fs[i] {
-            return false;
-        }
-        i = i + 1;
-    }
-    true
+    fs.iter().all(|c| *c < v)
 }
 
 // 25: whether the lists have a text.

@@ -1,4 +1,5 @@
 -- Which of 16, 15 and the sheet's lists decides; and what a call that succeeds has listed.
+use Rattle.std.specs.Prelude.{Err, Ok}
 use Prim.Native.Nat.{ℕ, ◌+◌, ◌*◌, ◌≤◌, ◌<◌}
 use mathlib.Core.Path.{◌≡◌, refl, ap, ◌∙◌}
 use mathlib.Core.Bool.{true, false}
@@ -8,32 +9,21 @@ use lib.IntN.{ℤ}
 use lib.ListN.{length}
 use lib.Seq.{sets}
 use borrow.Author.Tests.{lt-ltb, le-ltb}
-use Rattle.lists.proofs.Places.{taken}
 use Rattle.rules.specs.Position.{whole}
 use Rattle.rules.specs.Levels.{last, positions}
 use Rattle.rules.specs.Answers.{outcome}
 use Rattle.rules.specs.Sheets.{bad_sheet, sheet_levels, sheet_indices, sheet_coords, cut_rooms, most_input}
 use Rattle.rules.specs.declared.Counts.{Counts}
-use Rattle.rules.specs.declared.Outcome.TheVariants.{Success, Refused}
 use Rattle.rules.specs.declared.Refusal.{Refusal}
 use Rattle.rules.proofs.Spokes.{length-positions}
 use Rattle.loopsubdiv.proofs.Outcomes.{Done, done, whole_room_lem}
 use Rattle.outlines.specs.Loops.{listing, loops_of, outline_of, outline_outcome}
 use Rattle.outlines.proofs.Answered.{listed_below, succeeded}
 use Rattle.listing.specs.Text.{refused_text}
-use Rattle.reader.specs.Reading.{sheet_of}
-use Rattle.reader.specs.declared.Sheet.TheVariants as sheet
 use Rattle.outline.specs.Output.{outlines_line, list_room, cage_text, refused_by, outline_text, entry_texts, Vertices}
 use Rattle.outline.proofs.Lines.{listing-text, listing-vertices, same_text, front-line}
 
-unlike : {v f l : ℕ} → sheet.Is v f l ≡ sheet.Refused → ⊥
-unlike {v} {f} {l} e = let z : ◌≡◌ {A = ℕ} 0 1 = cc in omega arith
-
 module _ (b : List ℕ) where
-  pub refused-is : sheet_of b ≡ sheet.Refused → bad_sheet b ≡ true
-  unfolding sheet_of
-  refused-is e = (taken (bad_sheet b) unlike e).0
-
   pub over : most_input < length b → refused_by 16 ≡ outline_text b
   unfolding outline_text
   over h = rw (lt-ltb most_input (length b) h) refl
@@ -54,12 +44,12 @@ module _ (l : ℕ) (fs : List ℕ) (xs : List ℤ) where
   abbrev ps : List ℤ
   ps = positions whole (last whole l fs xs)
 
-  pub text-refused : (r : Refusal) → outline_outcome cut_rooms list_room l fs xs ≡ Refused r → refused_text r ≡ cage_text l fs xs
+  pub text-refused : (r : Refusal) → outline_outcome cut_rooms list_room l fs xs ≡ Err r → refused_text r ≡ cage_text l fs xs
   unfolding cage_text
   text-refused r e = rw e refl
 
-  module _ (k : Counts) (e : outline_outcome cut_rooms list_room l fs xs ≡ Success k) where
-    fine : (outcome whole cut_rooms l fs xs ≡ Success k) × (length (listing rs) ≤ list_room)
+  module _ (k : Counts) (e : outline_outcome cut_rooms list_room l fs xs ≡ Ok k) where
+    fine : (outcome whole cut_rooms l fs xs ≡ Ok k) × (length (listing rs) ≤ list_room)
     fine = succeeded cut_rooms list_room l fs xs k e
 
     counts : Done whole cut_rooms l fs xs k

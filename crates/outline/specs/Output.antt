@@ -1,11 +1,10 @@
 -- What `outline` writes for a sheet: how many loops and points; then of each loop its length and its points, in order along the rim.
-use Rattle.std.specs.Prelude.{ℕ, ◌-◌, ◌<◌, ◌≢◌, List, [], ◌∷◌, ◌++◌, ltb, eqb, ℤ, length}
+use Rattle.std.specs.Prelude.{ℕ, ◌-◌, ◌<◌, ◌≢◌, List, [], ◌∷◌, ◌++◌, ltb, eqb, ℤ, length, Err, Ok}
 use Rattle.lists.specs.Lists.{pick, gather}
 use Rattle.rules.specs.Position.{whole}
 use Rattle.rules.specs.Levels.{last, positions}
 use Rattle.rules.specs.Sheets.{bad_sheet, sheet_levels, sheet_indices, sheet_coords, cut_rooms, most_input}
-use Rattle.rules.specs.declared.Outcome.{Outcome}
-use Rattle.rules.specs.declared.Outcome.TheVariants.{Success, Refused}
+use Rattle.rules.specs.Outcome.{Outcome}
 use Rattle.outlines.specs.Loops.{outline_of, loops_of, outline_outcome}
 use Rattle.outlines.specs.declared.Outline.{Outline}
 use Rattle.listing.specs.Text.{numeral, spaced, vertex_line, refused_text}
@@ -22,8 +21,8 @@ unfoldable pub loop_text : List ℤ → List ℕ → List ℕ
 loop_text ps r = loop_line (length r) ++ gather (vertex_line ps) r
 
 abbrev pub traced_text : Outcome → List ℤ → List (List ℕ) → List ℕ
-traced_text (Success c) ps rs = outlines_line (outline_of rs) ++ gather (loop_text ps) rs
-traced_text (Refused r) ps rs = refused_text r
+traced_text (Ok c) ps rs = outlines_line (outline_of rs) ++ gather (loop_text ps) rs
+traced_text (Err r) ps rs = refused_text r
 
 -- ---- of a cage, in room for 512 faces and 512 vertices, as `platecut` has it, and for 512 vertices in 170 loops
 

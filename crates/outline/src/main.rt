@@ -1,17 +1,15 @@
 // `outline`: a sheet from standard input; the rim of its plate as loops of points, or the refusal, to standard output.
 #![tactic(auto)]
 
-ghost use Rattle.std.specs.Prelude.{◌≡◌, ◌≢◌, ◌+◌, ◌*◌, ◌≤◌, length};
+ghost use Rattle.std.specs.Prelude.{◌≡◌, ◌≢◌, ◌+◌, ◌*◌, ◌≤◌, length, Some};
 ghost use Rattle.rules.specs.Calls.{given};
 ghost use Rattle.rules.specs.Sheets.{sheet_levels, sheet_indices, sheet_coords};
 ghost use Rattle.reader.specs.Reading.{sheet_of};
 ghost use Rattle.listing.specs.Text.{Put};
-ghost use Rattle.outline.specs.Output.{outlines_line, loop_line, entry_text, left_after, entry_texts, Vertices, cage_text, refused_by, outline_text};
+ghost use Rattle.outline.specs.Output.{outlines_line, loop_line, entry_text, left_after, entry_texts, Vertices, cage_text, outline_text};
 
-use listing::{STDERR_FILENO, STDIN_FILENO, STDOUT_FILENO};
-use outlines::{Outline, Traced};
+use outlines::Outline;
 use reader::Sheet;
-use rules::Refusal;
 
 fn outlines_line(text: &mut [u8], o: Outline) -> usize
     requires { 51 ≤ length text.old }
@@ -61,10 +59,9 @@ fn entries(text: &mut [u8], from: usize, positions: &[i32], list: &[u32]) -> usi
 {
     let mut at = from;
     let mut left = 0u32;
-    for i in 0..list.len() {
-        let e = list[i];
-        at = entry(text, at, positions, left, e);
-        left = left_after(left, e);
+    for e in list {
+        at = entry(text, at, positions, left, *e);
+        left = left_after(left, *e);
     }
     at
 }
@@ -91,8 +88,8 @@ fn cage(levels: u32, indices: &[u32], coords: &[i32], text: &mut [u8]) -> usize
         &mut list,
     );
     match t {
-        Traced::Refused(r) => listing::refused_text(text, r),
-        Traced::Success(o) => {
+        Err(r) => listing::refused_text(text, r),
+        Ok(o) => {
             let first = outlines_line(text, o);
             let n = (o.loops + o.listed) as usize;
             entries(text, first, &positions, &list[..n])
@@ -101,32 +98,18 @@ fn cage(levels: u32, indices: &[u32], coords: &[i32], text: &mut [u8]) -> usize
 }
 
 // The lists of a sheet that is not over 32,768 bytes.
-fn lists(bytes: &[u8], vertices: usize, faces: usize, levels: u32, text: &mut [u8]) -> usize
-    requires { (length bytes.now ≤ 32768) × (sheet_of bytes.now ≡ Sheet.Is vertices faces levels) × (46427 ≤ length text.old) }
+fn lists(bytes: &[u8], s: Sheet, text: &mut [u8]) -> usize
+    requires { (length bytes.now ≤ 32768) × (sheet_of bytes.now ≡ Some s) × (46427 ≤ length text.old) }
     ensures put { Put text.old 0 (cage_text (sheet_levels (given bytes)) (sheet_indices (given bytes)) (sheet_coords (given bytes))) text.new result }
     ensures upper_bound { result ≤ length text.old }
 {
-    let nc = 3 * vertices;
+    let nc = 3 * s.vertices as usize;
     let mut coords = [0i32; 8192];
-    reader::coords_from(reader::vertex_block(bytes), nc, &mut coords);
-    let nw = 3 * faces;
+    reader::numbers_from(reader::vertex_block(bytes), nc, &mut coords);
+    let nw = 3 * s.faces as usize;
     let mut corners = [0u32; 8192];
-    reader::words_from(reader::face_block(bytes), nw, &mut corners);
-    cage(levels, &corners[..nw], &coords[..nc], text)
-}
-
-fn refused(number: u32, text: &mut [u8]) -> usize
-    requires { 53 ≤ length text.old }
-    ensures put { Put text.old 0 (refused_by number) text.new result }
-    ensures upper_bound { result ≤ length text.old }
-{
-    listing::refused_text(
-        text,
-        Refusal {
-            number: number,
-            place: 0,
-        },
-    )
+    reader::numbers_from(reader::face_block(bytes), nw, &mut corners);
+    cage(s.levels, &corners[..nw], &coords[..nc], text)
 }
 
 fn trace(bytes: &[u8], text: &mut [u8]) -> usize
@@ -135,28 +118,21 @@ fn trace(bytes: &[u8], text: &mut [u8]) -> usize
     ensures upper_bound { result ≤ length text.old }
 {
     if bytes.len() > 32768 {
-        return refused(16, text);
+        return listing::refused_by(text, 16);
     }
     match reader::read_sheet(bytes) {
-        Sheet::Refused => refused(15, text),
-        Sheet::Is {
-            vertices,
-            faces,
-            levels,
-        } => lists(bytes, vertices as usize, faces as usize, levels, text),
+        Some(s) => lists(bytes, s, text),
+        None => listing::refused_by(text, 15),
     }
 }
 
-// One byte over the most is read, so that 16 can be told.
 fn main() {
     let mut input = [0u8; 32769];
-    let n = io::read_full(STDIN_FILENO, &mut input);
+    let n = listing::input(&mut input);
     let mut text = [0u8; 46427];
     let k = trace(&input[..n], &mut text);
-    if !io::write_all(STDOUT_FILENO, &text[..k]) {
-        io::write_all(
-            STDERR_FILENO,
-            b"outline: the loops could not be written whole. Do not mill by them.\n",
-        );
-    }
+    listing::output(
+        &text[..k],
+        b"outline: the loops could not be written whole. Do not mill by them.\n",
+    );
 }

@@ -1,4 +1,5 @@
 -- An accepted cage: what the functions ask of it, and what goes into the list and how long that is.
+use Rattle.std.specs.Prelude.{Err, Ok}
 use mathlib.Core.Path.{◌≡◌, refl, sym, ap, ◌∙◌}
 use Prim.Native.Nat.{ℕ, zero, suc, ◌+◌, ◌*◌, ◌/◌, ◌<◌, ◌≤◌}
 use native.Mathlib.Omega.{arith}
@@ -12,14 +13,13 @@ use borrow.Author.Tests.{lt-ltb, le-ltb}
 use Rattle.lists.specs.Lists.{count, keep, tally, gather}
 use Rattle.lists.proofs.Places.{tally-below, length-keep, map-gather}
 use Rattle.lists.proofs.Stores.{part_of}
-use Rattle.rules.specs.Mesh.{corner, links, rims, Mesh, cage}
+use Rattle.rules.specs.Mesh.{corner, links, Mesh, cage}
 use Rattle.rules.specs.Position.{whole}
 use Rattle.rules.specs.Levels.{first, last, Sizes, sizes, after}
 use Rattle.rules.specs.Refusals.{most_in_mesh, too_large, size_refusal, refusal, Room}
 use Rattle.rules.specs.Answers.{counted, outcome}
 use Rattle.rules.specs.declared.Refusal.{Refusal}
 use Rattle.rules.specs.declared.Counts.{Counts}
-use Rattle.rules.specs.declared.Outcome.TheVariants.{Success, Refused}
 use Rattle.rules.proofs.Sound.{Sound}
 use Rattle.rules.proofs.Levels.{level, faces_at, mesh-levels, sound-level, counts-level}
 use Rattle.rules.proofs.Growth.{faces-counted}
@@ -28,8 +28,7 @@ use Rattle.rules.proofs.Cage.{Accepted, accepted}
 use Rattle.cage.specs.Chains.{Faces, Below, Once}
 use Rattle.cage.proofs.Chains.{last_none}
 use Rattle.cage.proofs.Stages.{faces-of}
-use Rattle.outlines.specs.Loops.{is_rim, leaving, begins, outlines, listing, outline_of, with_list, outline_outcome}
-use Rattle.outlines.specs.declared.Traced.TheVariants.{Success as Outlined}
+use Rattle.outlines.specs.Loops.{Traced, is_rim, leaving, begins, outlines, listing, outline_of, with_list, outline_outcome}
 use Rattle.outlines.specs.Pieces.{pieces, sides_of, Traceable, Leaving, leaves_at, Marked, stored, entry, entry_at, Final}
 use Rattle.outlines.proofs.Levels.{pieces_at, outlines-level}
 use Rattle.outlines.proofs.Counted.{rims-are, listed-is-rims, length-listing}
@@ -155,17 +154,17 @@ module _ (rooms : Counts → List Room) (n l : ℕ) (fs : List ℕ) (xs : List �
   abbrev needed : ℕ
   needed = length (listing (outlines (last whole l fs xs).mesh))
 
-  pub outcome-refused : (r : Refusal) → outcome whole rooms l fs xs ≡ Refused r → outline_outcome rooms n l fs xs ≡ Refused r
+  pub outcome-refused : (r : Refusal) → outcome whole rooms l fs xs ≡ Err r → outline_outcome rooms n l fs xs ≡ Err r
   unfolding outline_outcome
   outcome-refused r e = ap (with_list n needed) e
 
-  pub outcome-short : (c : Counts) → outcome whole rooms l fs xs ≡ Success c → n < needed → outline_outcome rooms n l fs xs ≡ Refused (record { number = 20; place = 0 })
+  pub outcome-short : (c : Counts) → outcome whole rooms l fs xs ≡ Ok c → n < needed → outline_outcome rooms n l fs xs ≡ Err (record { number = 20; place = 0 })
   unfolding outline_outcome
   outcome-short c e h = ap (with_list n needed) e ∙ rw (lt-ltb n needed h) refl
 
-  pub outcome-done : (c : Counts) → outcome whole rooms l fs xs ≡ Success c → needed ≤ n → outline_outcome rooms n l fs xs ≡ Success c
+  pub outcome-done : (c : Counts) → outcome whole rooms l fs xs ≡ Ok c → needed ≤ n → outline_outcome rooms n l fs xs ≡ Ok c
   unfolding outline_outcome
   outcome-done c e h = ap (with_list n needed) e ∙ rw (le-ltb n needed h) refl
 
-pub outline-is : (rs : List (List ℕ)) (a b : ℕ) → a ≡ length rs → b ≡ length (gather (λ r. r) rs) → Outlined (record { loops = a; listed = b }) ≡ Outlined (outline_of rs)
+pub outline-is : (rs : List (List ℕ)) (a b : ℕ) → a ≡ length rs → b ≡ length (gather (λ r. r) rs) → ◌≡◌ {A = Traced} (Ok (record { loops = a; listed = b })) (Ok (outline_of rs))
 outline-is rs a b p q = rw (p, q) refl

@@ -1,4 +1,5 @@
 -- What an answer says: the needed length over the control cage, the loops as an outline, a closed cage, and which outcome stands behind an answer.
+use Rattle.std.specs.Prelude.{Err, Ok}
 use mathlib.Core.Path.{◌≡◌, refl, sym, ap, ◌∙◌}
 use Prim.Native.Nat.{ℕ, ◌+◌, ◌*◌, ◌/◌, ◌^◌, ◌<◌, ◌≤◌}
 use native.Mathlib.Omega.{arith}
@@ -15,15 +16,13 @@ use Rattle.rules.specs.Refusals.{refusal, Room}
 use Rattle.rules.specs.Answers.{outcome}
 use Rattle.rules.specs.declared.Refusal.{Refusal}
 use Rattle.rules.specs.declared.Counts.{Counts}
-use Rattle.rules.specs.declared.Outcome.{Outcome}
-use Rattle.rules.specs.declared.Outcome.TheVariants.{Success, Refused}
+use Rattle.rules.specs.Outcome.{Outcome}
 use Rattle.rules.proofs.Sound.{Sound}
 use Rattle.rules.proofs.Levels.{level, faces_at, mesh-levels, rims-level}
 use Rattle.rules.proofs.Cage.{accepted}
 use Rattle.outlines.specs.Loops.{begins, outlines, listing, outline_of, outline_outcome, traced}
 use Rattle.outlines.specs.IsOutline.{IsOutline}
 use Rattle.outlines.specs.declared.Outline.{Outline}
-use Rattle.outlines.specs.declared.Traced.TheVariants.{Success as Outlined, Refused as NotOutlined}
 use Rattle.outlines.proofs.Counted.{loops-are}
 use Rattle.outlines.proofs.IsOutline.{first-is, is-outline, closed_none}
 use Rattle.outlines.proofs.Levels.{starts-level}
@@ -91,18 +90,18 @@ module _ (l : ℕ) (fs : List ℕ) (xs : List ℤ) (e : refusal whole l fs xs �
 
 -- ---- the outcome behind an answer
 
-pub behind-refused : (o : Outcome) (rs : List (List ℕ)) (r : Refusal) → NotOutlined r ≡ traced o rs → o ≡ Refused r
-behind-refused (Success c) rs r e = absurd (let z : ◌≡◌ {A = ℕ} 0 1 = cc in omega arith)
-behind-refused (Refused q) rs r e = cc
+pub behind-refused : (o : Outcome) (rs : List (List ℕ)) (r : Refusal) → Err r ≡ traced o rs → o ≡ Err r
+behind-refused (Ok c) rs r e = absurd (let z : ◌≡◌ {A = ℕ} 0 1 = cc in omega arith)
+behind-refused (Err q) rs r e = cc
 
 pub record Behind (o : Outcome) (rs : List (List ℕ)) (k : Outline) : Type 0 where
   pub counts : Counts
-  pub is : o ≡ Success counts
+  pub is : o ≡ Ok counts
   pub tells : k ≡ outline_of rs
 
-pub behind-outlined : (o : Outcome) (rs : List (List ℕ)) (k : Outline) → Outlined k ≡ traced o rs → Behind o rs k
-behind-outlined (Success c) rs k e = record { counts = c; is = refl; tells = cc }
-behind-outlined (Refused q) rs k e = absurd (let z : ◌≡◌ {A = ℕ} 0 1 = cc in omega arith)
+pub behind-outlined : (o : Outcome) (rs : List (List ℕ)) (k : Outline) → Ok k ≡ traced o rs → Behind o rs k
+behind-outlined (Ok c) rs k e = record { counts = c; is = refl; tells = cc }
+behind-outlined (Err q) rs k e = absurd (let z : ◌≡◌ {A = ℕ} 0 1 = cc in omega arith)
 
 module _ (rooms : Counts → List Room) (n l : ℕ) (fs : List ℕ) (xs : List ℤ) where
   abbrev needed : ℕ
@@ -111,27 +110,27 @@ module _ (rooms : Counts → List Room) (n l : ℕ) (fs : List ℕ) (xs : List �
   -- 20 alone is new: any other outcome is the whole call's
   pub data Either : Type 0 where
     as-whole : outline_outcome rooms n l fs xs ≡ outcome whole rooms l fs xs → Either
-    list-short : (c : Counts) → outcome whole rooms l fs xs ≡ Success c → n < needed → outline_outcome rooms n l fs xs ≡ Refused (record { number = 20; place = 0 }) → Either
+    list-short : (c : Counts) → outcome whole rooms l fs xs ≡ Ok c → n < needed → outline_outcome rooms n l fs xs ≡ Err (record { number = 20; place = 0 }) → Either
 
   pub either : Either
   either = go (outcome whole rooms l fs xs) refl
     where
       go : (o : Outcome) → outcome whole rooms l fs xs ≡ o → Either
-      go (Refused r) e = as-whole (outcome-refused rooms n l fs xs r e ∙ sym e)
-      go (Success c) e = at (dec_lt n needed)
+      go (Err r) e = as-whole (outcome-refused rooms n l fs xs r e ∙ sym e)
+      go (Ok c) e = at (dec_lt n needed)
         where
           at : Dec (n < needed) → Either
           at (yes h) = list-short c e h (outcome-short rooms n l fs xs c e h)
           at (no h) = as-whole (outcome-done rooms n l fs xs c e (omega arith) ∙ sym e)
 
   -- a success is the whole call's, and the list fits
-  pub succeeded : (k : Counts) → outline_outcome rooms n l fs xs ≡ Success k → (outcome whole rooms l fs xs ≡ Success k) × (needed ≤ n)
+  pub succeeded : (k : Counts) → outline_outcome rooms n l fs xs ≡ Ok k → (outcome whole rooms l fs xs ≡ Ok k) × (needed ≤ n)
   succeeded k q = go either (dec_lt n needed)
     where
-      clash : {X : Type 0} (r : Refusal) → outline_outcome rooms n l fs xs ≡ Refused r → X
-      clash r z = absurd (let y : Refused r ≡ Success k = sym z ∙ q in let x : ◌≡◌ {A = ℕ} 0 1 = cc in omega arith)
+      clash : {X : Type 0} (r : Refusal) → outline_outcome rooms n l fs xs ≡ Err r → X
+      clash r z = absurd (let y : Err r ≡ Ok k = sym z ∙ q in let x : ◌≡◌ {A = ℕ} 0 1 = cc in omega arith)
 
-      go : Either → Dec (n < needed) → (outcome whole rooms l fs xs ≡ Success k) × (needed ≤ n)
+      go : Either → Dec (n < needed) → (outcome whole rooms l fs xs ≡ Ok k) × (needed ≤ n)
       go (list-short c e h z) x = clash (record { number = 20; place = 0 }) z
       go (as-whole e) (no h) = (sym e ∙ q, omega arith)
       go (as-whole e) (yes h) = clash (record { number = 20; place = 0 }) (outcome-short rooms n l fs xs k (sym e ∙ q) h)

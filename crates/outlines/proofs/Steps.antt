@@ -77,19 +77,18 @@ pub within-turn : (n l s : ℕ) (b : Bool) → Within n (suc l) s → Within n l
 within-turn n l s true w = record { faces = 4 * w.faces; below = restart-below s w.faces w.below; most = w.most }
 within-turn n l s false w = record { faces = 4 * w.faces; below = second_below s w.faces w.below; most = w.most }
 
-pub record Turned (n l h t i : ℕ) : Type 0 where
-  pub power : h / 2 ≡ 2 ^ (l - 1)
-  pub piece : get_or (pieces l t) i 0 ≡ get_or (pieces (l - 1) (pick (ltb i (h / 2)) (first_half t) (second_half t))) (pick (ltb i (h / 2)) i (i - h / 2)) 0
-  pub rest : pick (ltb i (h / 2)) i (i - h / 2) < 2 ^ (l - 1)
-  pub within : Within n (l - 1) (pick (ltb i (h / 2)) (first_half t) (second_half t))
+-- of a side with m more levels to come, the half in which the piece lies, of h pieces, with one level less to come
+pub record Turned (n l m h t i : ℕ) : Type 0 where
+  pub piece : get_or (pieces m t) i 0 ≡ get_or (pieces l (pick (ltb i h) (first_half t) (second_half t))) (pick (ltb i h) i (i - h)) 0
+  pub rest : pick (ltb i h) i (i - h) < 2 ^ l
+  pub within : Within n l (pick (ltb i h) (first_half t) (second_half t))
 
-pub turn-of : (n l h t i : ℕ) → 0 < l → h ≡ 2 ^ l → i < 2 ^ l → Within n l t → Turned n l h t i
-turn-of n zero h t i p e k w = absurd (not-suc-le-zero p)
-turn-of n (suc l) h t i p e k w =
-    let a : suc l - 1 ≡ l = omega arith in
+pub turn-of : (n l m h t i : ℕ) → m ≡ l + 1 → h ≡ 2 ^ l → i < 2 ^ m → Within n m t → Turned n l m h t i
+turn-of n l m h t i p e k w =
+    let a : m ≡ suc l = omega (arith, p) in
     let q : 2 ^ suc l ≡ 2 * 2 ^ l = omega arith in
-    let b : h / 2 ≡ 2 ^ l = omega (arith, e, q) in
-    (record { power = rw a b; piece = rw (a, b) (piece-turn l t i); rest = rw (a, b) (go (ltb i (2 ^ l)) refl (omega (arith, k, q))); within = rw (a, b) (within-turn n l t (ltb i (2 ^ l)) w) })
+    let j = rw a at k in
+    record { piece = rw (a, e) (piece-turn l t i); rest = rw e (go (ltb i (2 ^ l)) refl (omega (arith, j, q))); within = rw e (within-turn n l t (ltb i (2 ^ l)) (rw a at w)) }
   where
     go : (c : Bool) → ltb i (2 ^ l) ≡ c → i < 2 * 2 ^ l → pick c i (i - 2 ^ l) < 2 ^ l
     go true y z = ltb-true i (2 ^ l) y

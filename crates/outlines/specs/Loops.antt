@@ -1,5 +1,5 @@
 -- Request [9], "Rims as outlines": the rim loops of a mesh, what `rim_loops` answers and what it leaves.
-use Rattle.std.specs.Prelude.{ℕ, ◌≡◌, Bool, not, ◌&&◌, List, [], ◌∷◌, map, eqb, ltb, length, get_or, ℤ}
+use Rattle.std.specs.Prelude.{ℕ, ◌≡◌, Bool, not, ◌&&◌, List, [], ◌∷◌, map, eqb, ltb, length, get_or, ℤ, Result, Err, Ok}
 use Rattle.std.proofs.Math.Option.{Option, none, some}
 use Rattle.lists.specs.Lists.{pick, count, find, lowest, found, keep, gather}
 use Rattle.rules.specs.Mesh.{onward, corner, links, here, walk, passed, step_to, Mesh}
@@ -9,11 +9,9 @@ use Rattle.rules.specs.Refusals.{Room}
 use Rattle.rules.specs.Answers.{outcome, written}
 use Rattle.rules.specs.Calls.{Lent, Buffers, final, Call, whole_room}
 use Rattle.rules.specs.declared.Counts.{Counts}
-use Rattle.rules.specs.declared.Outcome.{Outcome}
-use Rattle.rules.specs.declared.Outcome.TheVariants.{Success, Refused}
+use Rattle.rules.specs.Outcome.{Outcome}
 use Rattle.outlines.specs.declared.Outline.{Outline}
-use Rattle.outlines.specs.declared.Traced.{Traced}
-use Rattle.outlines.specs.declared.Traced.TheVariants.{Success as Outlined, Refused as NotOutlined}
+use Rattle.rules.specs.declared.Refusal.{Refusal}
 
 -- ---- "A loop follows rim sides in the faces' direction"
 
@@ -61,8 +59,8 @@ outline_of rs = record { loops = length rs; listed = length (gather (λ r. r) rs
 -- ---- the refusals of the whole call "unchanged"; then 20, "list room short", of n entries
 
 abbrev pub with_list : ℕ → ℕ → Outcome → Outcome
-with_list n needed (Success c) = pick (ltb n needed) (Refused (record { number = 20; place = 0 })) (Success c)
-with_list n needed (Refused r) = Refused r
+with_list n needed (Ok c) = pick (ltb n needed) (Err (record { number = 20; place = 0 })) (Ok c)
+with_list n needed (Err r) = Err r
 
 -- the loops of the last level
 abbrev pub loops_of : ℕ → List ℕ → List ℤ → List (List ℕ)
@@ -73,9 +71,13 @@ outline_outcome rooms n l fs xs =
     let needed = length (listing (loops_of l fs xs)) in
     with_list n needed (outcome whole rooms l fs xs)
 
+-- what the call answers
+abbrev pub Traced : Type 0
+Traced = Result Outline Refusal
+
 abbrev pub traced : Outcome → List (List ℕ) → Traced
-traced (Success c) rs = Outlined (outline_of rs)
-traced (Refused r) rs = NotOutlined r
+traced (Ok c) rs = Ok (outline_of rs)
+traced (Err r) rs = Err r
 
 -- ---- what the call promises: the buffers "as the whole call does", and the list
 
@@ -88,8 +90,8 @@ pub record OutlineCall (l : ℕ) (fs : List ℕ) (xs : List ℤ) (b : Lent (Buff
 
 -- for C, the answer in four numbers: refusal number or 0, place, loops, vertices listed
 abbrev pub traced_answer : Traced → List ℕ
-traced_answer (Outlined c) = 0 ∷ 0 ∷ c.loops ∷ c.listed ∷ []
-traced_answer (NotOutlined r) = r.number ∷ r.place ∷ 0 ∷ 0 ∷ []
+traced_answer (Ok c) = 0 ∷ 0 ∷ c.loops ∷ c.listed ∷ []
+traced_answer (Err r) = r.number ∷ r.place ∷ 0 ∷ 0 ∷ []
 
 pub record OutlineTold (l : ℕ) (fs : List ℕ) (xs : List ℤ) (b : Lent (Buffers ℤ)) (list : Lent (List ℕ)) (told : List ℕ) : Type 0 where
   pub answer : Traced

@@ -1,7 +1,7 @@
 // The rim loops of a final mesh, for the router, on top of the whole engine. Judge, then act: no lent buffer is touched before the outcome is known, the list's room included.
 #![tactic(auto)]
 
-ghost use Rattle.std.specs.Prelude.{◌≡◌, ◌/◌, ◌≤◌, length};
+ghost use Rattle.std.specs.Prelude.{◌≡◌, ◌/◌, ◌≤◌, length, Ok};
 ghost use Rattle.std.proofs.lemmas.List.Edits.{sets};
 ghost use Rattle.rules.specs.Position.{whole};
 ghost use Rattle.rules.specs.Answers.{outcome, whole_rooms};
@@ -9,7 +9,7 @@ ghost use Rattle.rules.specs.Calls.{given, lent, buffers, WholeCall};
 ghost use Rattle.outlines.specs.Loops.{listing, loops_of, OutlineCall};
 ghost use Rattle.outlines.specs.Pieces.{Left, Firsts};
 
-use rules::{Counts, Outcome, Refusal};
+use rules::{Counts, Refusal};
 
 mod list;
 mod pieces;
@@ -22,11 +22,7 @@ pub struct Outline {
     pub listed: u32,
 }
 
-#[derive(Clone, Copy)]
-pub enum Traced {
-    Success(Outline),
-    Refused(Refusal),
-}
+pub type Traced = Result<Outline, Refusal>;
 
 // The whole call acts, and the loops of what it wrote go into the list.
 fn write(
@@ -42,13 +38,13 @@ fn write(
     marks: &[u32],
     list: &mut [u32],
 )
-    requires success { outcome whole (whole_rooms (length positions.old) (length out.old) (length words.old) (length work.old)) levels indices.now coords.now ≡ Outcome.Success c }
+    requires success { outcome whole (whole_rooms (length positions.old) (length out.old) (length words.old) (length work.old)) levels indices.now coords.now ≡ Ok c }
     requires tables { (length leaving.now ≡ 4096) × (length marks.now ≡ 4096) × Left indices.now leaving.now × Firsts (length coords.now / 3) indices.now marks.now }
     requires room { length (listing (loops_of levels indices.now coords.now)) ≤ length list.old }
-    ensures call { WholeCall levels (given indices) (given coords) (buffers positions out words work) (Outcome.Success c) }
+    ensures call { WholeCall levels (given indices) (given coords) (buffers positions out words work) (Ok c) }
     ensures list { list.new ≡ sets list.old 0 (listing (loops_of levels (given indices) (given coords))) }
 {
-    let all = pieces::power(levels);
+    let all = 1 << levels;
     let n = 3 * (c.faces as usize);
     loopsubdiv::act_whole(
         c,
@@ -86,7 +82,7 @@ fn finish(
     leaving: &[u32],
     list: &mut [u32],
 ) -> Traced
-    requires success { outcome whole (whole_rooms (length positions.old) (length out.old) (length words.old) (length work.old)) levels indices.now coords.now ≡ Outcome.Success c }
+    requires success { outcome whole (whole_rooms (length positions.old) (length out.old) (length words.old) (length work.old)) levels indices.now coords.now ≡ Ok c }
     requires leaving { (length leaving.now ≡ 4096) × Left indices.now leaving.now }
     ensures { OutlineCall levels (given indices) (given coords) (buffers positions out words work) (lent list) result }
 {
@@ -94,7 +90,7 @@ fn finish(
     let rims = c.rims;
     let loops = rim::mark_loops(indices, leaving, coords.len() / 3, &mut marks);
     if list.len() < (rims + loops) as usize {
-        return Traced::Refused(Refusal {
+        return Err(Refusal {
             number: 20,
             place: 0,
         });
@@ -102,8 +98,8 @@ fn finish(
     write(
         c, levels, indices, coords, positions, out, words, work, leaving, &marks, list,
     );
-    Traced::Success(Outline {
-        loops: loops,
+    Ok(Outline {
+        loops,
         listed: rims,
     })
 }
@@ -119,7 +115,7 @@ fn trace(
     work: &mut [i32],
     list: &mut [u32],
 ) -> Traced
-    requires { outcome whole (whole_rooms (length positions.old) (length out.old) (length words.old) (length work.old)) levels indices.now coords.now ≡ Outcome.Success c }
+    requires { outcome whole (whole_rooms (length positions.old) (length out.old) (length words.old) (length work.old)) levels indices.now coords.now ≡ Ok c }
     ensures { OutlineCall levels (given indices) (given coords) (buffers positions out words work) (lent list) result }
 {
     let mut leaving = [0u32; 4096];
@@ -142,7 +138,7 @@ pub fn rim_loops(
 ) -> Traced
     ensures { OutlineCall levels (given indices) (given coords) (buffers positions out words work) (lent list) result }
 {
-    let o = loopsubdiv::judge_whole(
+    let c = loopsubdiv::judge_whole(
         levels,
         indices,
         coords,
@@ -151,11 +147,8 @@ pub fn rim_loops(
         out.len(),
         words.len(),
         work.len(),
-    );
-    match o {
-        Outcome::Refused(x) => Traced::Refused(x),
-        Outcome::Success(c) => trace(
-            c, levels, indices, coords, positions, out, words, work, list,
-        ),
-    }
+    )?;
+    trace(
+        c, levels, indices, coords, positions, out, words, work, list,
+    )
 }

@@ -27,10 +27,8 @@ fn put_leaving(indices: &[u32], links: &[u32], v: usize, leaving: &mut [u32])
     requires empty { Leaving indices.now 0 leaving.old }
     ensures { Left indices.now leaving.new × (length leaving.new ≡ length leaving.old) }
 {
-    let mut s = 0;
-    while s < indices.len() {
+    for s in 0..indices.len() {
         put_side(indices, links, s, leaving);
-        s = s + 1;
     }
 }
 
@@ -73,12 +71,13 @@ fn mark_loop(indices: &[u32], leaving: &[u32], v: usize, first: usize, k: u32, m
 {
     let mut n = 0usize;
     let mut w = (first + 1) as u32;
+    // Stays: the rim leads from side to side; n, of which the invariant speaks, says how many.
     while w > 0 {
         let t = (w - 1) as usize;
         let a = indices[t] as usize;
         marks[a] = k;
         w = next_word(indices, leaving, first, t);
-        n = n + 1;
+        n += 1;
     }
 }
 
@@ -109,11 +108,9 @@ pub fn mark_loops(indices: &[u32], leaving: &[u32], v: usize, marks: &mut [u32])
     ensures loops { result ≡ tally (begins indices.now (links_of indices.now)) (count 0 v) }
     ensures marks { Firsts v indices.now marks.new × (length marks.new ≡ length marks.old) }
 {
-    let mut loops = 0u32;
-    let mut u = 0;
-    while u < v {
-        loops = loops + mark_at(indices, leaving, v, u, marks);
-        u = u + 1;
+    let mut loops = 0;
+    for u in 0..v {
+        loops += mark_at(indices, leaving, v, u, marks);
     }
     loops
 }

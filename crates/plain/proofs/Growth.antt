@@ -9,7 +9,7 @@ use lib.Seq.{sets, length-sets}
 use Rattle.lists.specs.Lists.{count, gather, part}
 use Rattle.lists.proofs.Places.{length-count}
 use Rattle.lists.proofs.Stores.{drop-after, part_of, part-outside, part-add, length_part}
-use Rattle.rules.specs.Mesh.{links, firsts, middle, restart, fourth, refined}
+use Rattle.rules.specs.Mesh.{links, firsts, middle, restart, fourth}
 use Rattle.rules.proofs.Refine.{Good, finer_of, length-finer}
 use Rattle.levels.specs.Level.{mesh_in, Below, Mutual, children_by}
 use Rattle.levels.proofs.Growth.{links-mutual, children-are, refined-is}

@@ -21,7 +21,7 @@ fn load_words(indices: &[u32], nv: usize, words: &mut [u32])
     requires { Faces indices.now × (nv ≤ 4096) × (2 * length indices.now + nv ≤ length words.old) }
     ensures { words.new ≡ loaded nv indices.now words.old }
 {
-    room::copy_words(indices, words);
+    room::copy(indices, words);
     scans::put_starts(indices, nv, words, 2 * indices.len());
 }
 
@@ -64,20 +64,18 @@ fn refine(
     ensures held { Held (sharp_last whole levels sharp.now indices.now coords.now) levels half third words.new work.new }
     ensures kept { Kept (2 * half) words.new words.old × Kept (2 * third) work.new work.old }
 {
-    let mut i = 0;
     let mut nf = indices.len() / 3;
     let mut nv = coords.len() / 3;
-    while i < levels {
+    for i in 0..levels {
         let at = room::start(i, half);
         let to = room::start(i + 1, half);
         let from = room::start(i, third);
         let next = room::start(i + 1, third);
         let marks = at + (half - nf);
         refine_points(&words[..], at, marks, nf, nv, work, from, next);
-        nv = nv + refine_words(words, at, to, nf, nv);
+        nv += refine_words(words, at, to, nf, nv);
         marks::refine_marks(words, marks, to + (half - 4 * nf), nf);
         nf = 4 * nf;
-        i = i + 1;
     }
 }
 
@@ -102,9 +100,9 @@ fn finish(
 {
     let half = 8 * nf + 4 * nv;
     let at = room::start(levels, half);
-    room::copy_words(&words[at..at + 3 * nf], out);
+    room::copy(&words[at..at + 3 * nf], out);
     let third = 3 * nv;
-    let xs = room::whole_front(&work[0..third], &work[third..2 * third], levels, third);
+    let xs = room::front(&work[0..third], &work[third..2 * third], levels, third);
     limit(words, at, at + (half - nf), nf, nv, xs, positions);
 }
 
@@ -132,7 +130,7 @@ pub fn run(
     let third = 3 * nv;
     load_words(indices, coords.len() / 3, words);
     load_marks(levels, indices, coords, sharp, nf, nv, words);
-    room::copy_coords(coords, work);
+    room::copy(coords, work);
     refine(levels, indices, coords, sharp, half, third, words, work);
     finish(
         levels,
@@ -146,6 +144,6 @@ pub fn run(
         positions,
         out,
     );
-    room::zero_words(words, 2 * half);
-    room::zero_coords(work, 2 * third);
+    room::clear(words, 2 * half, 0);
+    room::clear(work, 2 * third, 0);
 }

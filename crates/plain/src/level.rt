@@ -20,13 +20,11 @@ fn number(words: &mut [u32], at: usize, mids: usize, n: usize, v: usize) -> usiz
     ensures numbers { words.new ≡ sets words.old mids (map (middle v (links (part at n words.old))) (count 0 n)) }
 {
     let mut k = 0;
-    let mut s = 0;
-    while s < n {
+    for s in 0..n {
         let w = across(&words[..], at, n, s);
         let m = edge_number(&words[..], mids, w, s as u32, (v + k) as u32);
         words[mids + s] = m;
         k = counted(first_met(w, s as u32), k);
-        s = s + 1;
     }
     k
 }
@@ -39,14 +37,12 @@ fn new_starts(words: &mut [u32], at: usize, to: usize, n: usize)
     ensures { words.new ≡ sets words.old to (map fourth (firsts (links (part at n words.old)))) }
 {
     let mut k = 0;
-    let mut s = 0;
-    while s < n {
+    for s in 0..n {
         let w = across(&words[..], at, n, s);
         if first_met(w, s as u32) {
             words[to + k] = in_fourth(s) as u32;
-            k = k + 1;
+            k += 1;
         }
-        s = s + 1;
     }
 }
 

@@ -27,10 +27,8 @@ fn judge_room(
 ) -> Outcome
     ensures { result ≡ sharp_outcome whole (whole_rooms positions out words work) levels sharp.now indices.now coords.now }
 {
-    match scans::judge(levels, indices, coords, sharp) {
-        Outcome::Refused(x) => Outcome::Refused(x),
-        Outcome::Success(c) => room::whole_room(c, positions, out, words, work),
-    }
+    let c = scans::judge(levels, indices, coords, sharp)?;
+    room::whole_room(c, positions, out, words, work)
 }
 
 // Whole micrometres, with the edges of the listed sides (3 face + side) sharp. Lent at the final F and V: positions 3V, out 3F, words 16F+8V, work 6V.
@@ -46,7 +44,7 @@ pub fn loop_subdivide_plain(
 ) -> Outcome
     ensures { SharpCall levels (given sharp) (given indices) (given coords) (buffers positions out words work) result }
 {
-    let o = judge_room(
+    let c = judge_room(
         levels,
         indices,
         coords,
@@ -55,16 +53,11 @@ pub fn loop_subdivide_plain(
         out.len(),
         words.len(),
         work.len(),
+    )?;
+    let nf = c.faces as usize;
+    let nv = c.vertices as usize;
+    engine::run(
+        levels, indices, coords, sharp, nf, nv, positions, out, words, work,
     );
-    match o {
-        Outcome::Refused(_) => o,
-        Outcome::Success(c) => {
-            let nf = c.faces as usize;
-            let nv = c.vertices as usize;
-            engine::run(
-                levels, indices, coords, sharp, nf, nv, positions, out, words, work,
-            );
-            o
-        }
-    }
+    Ok(c)
 }

@@ -20,8 +20,8 @@ use looks::across;
 use looks::rings::{far_of, next_of, sharp_ring};
 use marks::mark;
 use turns::MOST_VALENCE;
-use weights::Stage;
-use weights::micrometres::{Whole3, edge_inner, edge_rim};
+use weights::micrometres::Whole3;
+use weights::{Stage, Weighed};
 
 // Old vertex u by its ring.
 fn old_point(
@@ -75,14 +75,14 @@ fn edge_point(
     let b = VertNo(next_of(words, at, nf, s));
     let w = across(words, at, 3 * nf, s);
     if w == 0 {
-        return edge_rim(&work[from..from + 3 * nv], a, b);
+        return i32::edge_rim(&work[from..from + 3 * nv], a, b);
     }
     if mark(words, marks, s) {
-        return edge_rim(&work[from..from + 3 * nv], a, b);
+        return i32::edge_rim(&work[from..from + 3 * nv], a, b);
     }
     let d = VertNo(far_of(words, at, nf, s));
     let e = VertNo(far_of(words, at, nf, (w - 1) as usize));
-    edge_inner(&work[from..from + 3 * nv], a, b, d, e)
+    i32::edge_inner(&work[from..from + 3 * nv], a, b, d, e)
 }
 
 fn old_points(
@@ -100,11 +100,9 @@ fn old_points(
     requires near { AllNear (part from (3 * nv) work.old) }
     ensures { work.new ≡ sets work.old to (sharp_olds whole words.now at marks nf (part from (3 * nv) work.old) nv) }
 {
-    let mut u = 0;
-    while u < nv {
+    for u in 0..nv {
         let p = old_point(words, at, marks, nf, nv, &work[..], from, u);
-        p.put(work, to + 3 * u);
-        u = u + 1;
+        i32::put(p, work, to + 3 * u);
     }
 }
 
@@ -125,15 +123,13 @@ fn edge_points(
     ensures { work.new ≡ sets work.old (to + 3 * nv) (sharp_edges whole words.now at marks nf (part from (3 * nv) work.old)) }
 {
     let mut k = 0;
-    let mut s = 0;
-    while s < 3 * nf {
+    for s in 0..3 * nf {
         let w = across(words, at, 3 * nf, s);
         if first_met(w, s as u32) {
             let p = edge_point(words, at, marks, nf, nv, &work[..], from, s);
-            p.put(work, to + 3 * nv + 3 * k);
-            k = k + 1;
+            i32::put(p, work, to + 3 * nv + 3 * k);
+            k += 1;
         }
-        s = s + 1;
     }
 }
 
@@ -200,10 +196,8 @@ pub fn limit(
     requires room { 3 * nv ≤ length out.old }
     ensures { out.new ≡ sets out.old 0 (sharp_limits whole (mesh_in words.now at nf nv) (links (part at (3 * nf) words.now)) (marks_in words.now marks nf) xs.now) }
 {
-    let mut u = 0;
-    while u < nv {
+    for u in 0..nv {
         let p = limit_at(words, at, marks, nf, nv, xs, u);
-        p.put(out, 3 * u);
-        u = u + 1;
+        i32::put(p, out, 3 * u);
     }
 }

@@ -1,11 +1,10 @@
 // `platecut`: a sheet from standard input; the listing of its plate, or the refusal, to standard output.
 #![tactic(auto)]
 
-use sheet::Engine;
+use sheet::Linked;
 
 fn main() {
-    cutting::run(
-        Engine::Linked,
+    cutting::run::<Linked>(
         b"platecut: the listing could not be written whole. Do not cast from it.\n",
     );
 }

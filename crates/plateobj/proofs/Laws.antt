@@ -1,4 +1,5 @@
 -- What fits the room that is lent, which of 16 and the rest decides, and that every plate has a text.
+use Rattle.std.specs.Prelude.{Result, Err, Ok}
 use Prim.Native.Nat.{ℕ, ◌/◌, ◌≤◌, ◌<◌}
 use mathlib.Core.Path.{◌≡◌, refl, sym, ap, ◌∙◌}
 use mathlib.Core.Bool.{true}
@@ -18,8 +19,7 @@ use Rattle.rules.specs.Sheets.{bad_sheet, sheet_levels, sheet_indices, sheet_coo
 use Rattle.rules.specs.Calls.{sheet_last}
 use Rattle.rules.specs.declared.Counts.{Counts}
 use Rattle.rules.specs.declared.Refusal.{Refusal}
-use Rattle.rules.specs.declared.Outcome.{Outcome}
-use Rattle.rules.specs.declared.Outcome.TheVariants.{Success, Refused}
+use Rattle.rules.specs.Outcome.{Outcome}
 use Rattle.rules.proofs.Cage.{accepted}
 use Rattle.rules.proofs.Levels.{sound-level, mesh-levels}
 use Rattle.rules.proofs.Range.{near-at}
@@ -28,8 +28,6 @@ use Rattle.sheet.proofs.Calls.{done}
 use Rattle.listing.specs.Text.{Put}
 use Rattle.obj.specs.Form.{obj_text, has_text}
 use Rattle.obj.specs.Calls.{text_of, text_left}
-use Rattle.obj.specs.declared.Text.{Text}
-use Rattle.obj.specs.declared.Text.TheVariants.{Bytes, Refused as NotWritten}
 use Rattle.obj.proofs.Lines.{written}
 use Rattle.obj.proofs.Lengths.{text-short, has-text}
 use Rattle.obj.proofs.Promise.{wrote}
@@ -44,7 +42,7 @@ within c e =
     let w = whole_room_lem 98304 98304 786432 196608 c e in
     (omega (arith, w.positions), omega (arith, w.indices))
 
-pub over : (b : List ℕ) → most_sheet < length b → plate_outcome b ≡ Refused (record { number = 16; place = 0 })
+pub over : (b : List ℕ) → most_sheet < length b → plate_outcome b ≡ Err (record { number = 16; place = 0 })
 unfolding plate_outcome
 over b h = rw (lt-ltb most_sheet (length b) h)
 
@@ -63,11 +61,11 @@ rooms-are ps is ws cs b o p i w c e =
 
 -- ---- the lists of a plate have a text
 
-unless-none : (o : Option Refusal) (x : Outcome) (c : Counts) → unless o x ≡ Success c → x ≡ Success c
+unless-none : (o : Option Refusal) (x : Outcome) (c : Counts) → unless o x ≡ Ok c → x ≡ Ok c
 unless-none none x c e = e
 unless-none (some r) x c e = absurd (let z : ◌≡◌ {A = ℕ} 0 1 = cc in omega arith)
 
-pub plate-has : (b : List ℕ) (c : Counts) → sheet_outcome plate_rooms b ≡ Success c → has_text (positions_of whole (sheet_last b)) (sheet_last b).mesh.faces ≡ true
+pub plate-has : (b : List ℕ) (c : Counts) → sheet_outcome plate_rooms b ≡ Ok c → has_text (positions_of whole (sheet_last b)) (sheet_last b).mesh.faces ≡ true
 unfolding sheet_outcome
 plate-has b c e =
     let l = sheet_levels b in let fs = sheet_indices b in let xs = sheet_coords b in
@@ -87,14 +85,14 @@ plate-has b c e =
 
 -- ---- the writer's answer, which is no refusal
 
-pub put-bytes : (old : List ℕ) (xs : List ℤ) (fs new : List ℕ) (t : Text) (n : ℕ) → t ≡ text_of (length old) xs fs → t ≡ Bytes n → new ≡ text_left t (obj_text xs fs) old
+pub put-bytes : (old : List ℕ) (xs : List ℤ) (fs new : List ℕ) (t : Result ℕ Refusal) (n : ℕ) → t ≡ text_of (length old) xs fs → t ≡ Ok n → new ≡ text_left t (obj_text xs fs) old
     → Put old 0 (obj_text xs fs) new n × (n ≤ length old)
 put-bytes old xs fs new t n a b e =
     let w = wrote (length old) xs fs n (sym a ∙ b) in
-    (record { text = e ∙ ap (λ (u : Text). text_left u (obj_text xs fs) old) b; next-is = w.long ∙ sym (zero-add _) }, w.fits_in)
+    (record { text = e ∙ ap (λ (u : Result ℕ Refusal). text_left u (obj_text xs fs) old) b; next-is = w.long ∙ sym (zero-add _) }, w.fits_in)
 
-pub never-refused : (room : ℕ) (xs : List ℤ) (fs : List ℕ) (t : Text) (r : Refusal) → 1900544 ≤ room → has_text xs fs ≡ true → t ≡ text_of room xs fs → t ≡ NotWritten r → ⊥
+pub never-refused : (room : ℕ) (xs : List ℤ) (fs : List ℕ) (t : Result ℕ Refusal) (r : Refusal) → 1900544 ≤ room → has_text xs fs ≡ true → t ≡ text_of room xs fs → t ≡ Err r → ⊥
 never-refused room xs fs t r l h a b =
     let w = written room xs fs (length (obj_text xs fs)) h refl (omega (arith, text-short xs fs h)) in
-    let k : Bytes (length (obj_text xs fs)) ≡ NotWritten r = w ∙ sym a ∙ b in
-    let z : ◌≡◌ {A = ℕ} 0 1 = cc in omega arith
+    let k : Ok (length (obj_text xs fs)) ≡ Err r = w ∙ sym a ∙ b in
+    cc

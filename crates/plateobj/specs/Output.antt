@@ -1,5 +1,5 @@
 -- What `plateobj` writes for an input.
-use Rattle.std.specs.Prelude.{ℕ, List, ltb, ℤ, length}
+use Rattle.std.specs.Prelude.{ℕ, List, ltb, ℤ, length, Err, Ok}
 use Rattle.rules.specs.Position.{whole}
 use Rattle.rules.specs.Levels.{positions}
 use Rattle.rules.specs.Refusals.{check, when, Room}
@@ -7,8 +7,7 @@ use Rattle.rules.specs.Answers.{whole_rooms, unless}
 use Rattle.rules.specs.Sheets.{sheet_outcome}
 use Rattle.rules.specs.Calls.{sheet_last}
 use Rattle.rules.specs.declared.Counts.{Counts}
-use Rattle.rules.specs.declared.Outcome.{Outcome}
-use Rattle.rules.specs.declared.Outcome.TheVariants.{Success, Refused}
+use Rattle.rules.specs.Outcome.{Outcome}
 use Rattle.listing.specs.Text.{refused_text}
 use Rattle.obj.specs.Form.{obj_text}
 
@@ -27,8 +26,8 @@ plate_outcome b =
 
 -- the text of the plate, or of the refusal
 abbrev pub text_or : Outcome → List ℤ → List ℕ → List ℕ
-text_or (Success c) xs fs = obj_text xs fs
-text_or (Refused r) xs fs = refused_text r
+text_or (Ok c) xs fs = obj_text xs fs
+text_or (Err r) xs fs = refused_text r
 
 unfoldable pub text_for : Outcome → List ℕ → List ℕ
 text_for o b = text_or o (positions whole (sheet_last b)) (sheet_last b).mesh.faces

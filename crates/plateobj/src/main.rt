@@ -7,10 +7,6 @@ ghost use Rattle.rules.specs.Calls.{given};
 ghost use Rattle.obj.specs.Form.{obj_text, has_text};
 ghost use Rattle.plateobj.specs.Output.{plate_text, obj_output};
 
-use listing::{STDERR_FILENO, STDIN_FILENO, STDOUT_FILENO};
-use obj::Text;
-use rules::{Outcome, Refusal};
-
 // Rooms as they are lent. Of each no more is told than its length, so that no proof walks through so long a list.
 fn input_room() -> [u8; 98325]
     ensures { 98325 ≡ length result }
@@ -55,8 +51,8 @@ fn written(text: &mut [u8], positions: &[i32], indices: &[u32]) -> usize
     ensures upper_bound { result ≤ length text.old }
 {
     match obj::write_obj(positions, indices, text) {
-        Text::Bytes(n) => n as usize,
-        Text::Refused(r) => listing::refused_text(text, r),
+        Ok(n) => n as usize,
+        Err(r) => listing::refused_text(text, r),
     }
 }
 
@@ -71,8 +67,8 @@ fn plate(bytes: &[u8], text: &mut [u8]) -> usize
     let mut words = words_room();
     let mut work = work_room();
     match sheet::subdivide_sheet(bytes, &mut positions, &mut indices, &mut words, &mut work) {
-        Outcome::Refused(r) => listing::refused_text(text, r),
-        Outcome::Success(c) => {
+        Err(r) => listing::refused_text(text, r),
+        Ok(c) => {
             let nc = 3 * (c.vertices as usize);
             let nw = 3 * (c.faces as usize);
             written(text, &positions[..nc], &indices[..nw])
@@ -86,27 +82,18 @@ fn cut(bytes: &[u8], text: &mut [u8]) -> usize
     ensures upper_bound { result ≤ length text.old }
 {
     if bytes.len() > 98324 {
-        return listing::refused_text(
-            text,
-            Refusal {
-                number: 16,
-                place: 0,
-            },
-        );
+        return listing::refused_by(text, 16);
     }
     plate(bytes, text)
 }
 
-// One byte over the most is read, so that 16 can be told.
 fn main() {
     let mut input = input_room();
-    let n = io::read_full(STDIN_FILENO, &mut input);
+    let n = listing::input(&mut input);
     let mut text = text_room();
     let k = cut(&input[..n], &mut text);
-    if !io::write_all(STDOUT_FILENO, &text[..k]) {
-        io::write_all(
-            STDERR_FILENO,
-            b"plateobj: the text could not be written whole. Do not cast from it.\n",
-        );
-    }
+    listing::output(
+        &text[..k],
+        b"plateobj: the text could not be written whole. Do not cast from it.\n",
+    );
 }

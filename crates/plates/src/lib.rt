@@ -10,10 +10,10 @@ ghost use Rattle.obj.specs.Calls.{text_answer, TextTold, lists_answer, ListsTold
 ghost use Rattle.station.specs.Acceptance.{plate, StationTold};
 ghost use Rattle.station.specs.Acceptance.{answer as verdict_answer};
 
-use obj::{Lists, Text};
+use obj::Lists;
 use outlines::Traced;
+use rules::Refusal;
 use station::{Fault, Verdict};
-use writer::Written;
 
 #[unsafe(no_mangle)]
 pub extern "C" fn plates_loop_subdivide_whole(
@@ -99,14 +99,16 @@ pub extern "C" fn plates_subdivide_sheet(
     );
 }
 
-fn tell_written(w: Written, told: &mut [u32; 3])
-    ensures { told.new ≡ written_answer w }
+// Of a sheet or a text: how many bytes it has, or the refusal.
+fn tell_length(answer: Result<u32, Refusal>, told: &mut [u32; 3])
+    ensures sheet { told.new ≡ written_answer answer }
+    ensures text { told.new ≡ text_answer answer }
 {
-    match w {
-        Written::Bytes(n) => {
+    match answer {
+        Ok(n) => {
             *told = [0, 0, n];
         }
-        Written::Refused(r) => {
+        Err(r) => {
             let n = r.number;
             let p = r.place;
             *told = [n, p, 0];
@@ -125,7 +127,7 @@ pub extern "C" fn plates_write_sheet(
 )
     ensures { WriteTold levels (given indices) (given coords) (lent bytes) told.new }
 {
-    tell_written(writer::write_sheet(levels, indices, coords, bytes), told);
+    tell_length(writer::write_sheet(levels, indices, coords, bytes), told);
 }
 
 // Up to 64 sheets laid end to end, five numbers for each.
@@ -148,12 +150,12 @@ fn tell_loops(t: Traced, told: &mut [u32; 4])
     ensures { told.new ≡ traced_answer t }
 {
     match t {
-        Traced::Success(o) => {
+        Ok(o) => {
             let n = o.loops;
             let v = o.listed;
             *told = [0, 0, n, v];
         }
-        Traced::Refused(r) => {
+        Err(r) => {
             let n = r.number;
             let p = r.place;
             *told = [n, p, 0, 0];
@@ -241,21 +243,6 @@ pub extern "C" fn plates_accept(
     );
 }
 
-fn tell_text(t: Text, told: &mut [u32; 3])
-    ensures { told.new ≡ text_answer t }
-{
-    match t {
-        Text::Bytes(length) => {
-            *told = [0, 0, length];
-        }
-        Text::Refused(r) => {
-            let number = r.number;
-            let place = r.place;
-            *told = [number, place, 0];
-        }
-    }
-}
-
 // A mesh as OBJ text: refusal number or 0, place, length in bytes.
 #[unsafe(no_mangle)]
 pub extern "C" fn plates_write_obj(
@@ -266,17 +253,19 @@ pub extern "C" fn plates_write_obj(
 )
     ensures { TextTold (given coords) (given corners) (lent text) told.new }
 {
-    tell_text(obj::write_obj(coords, corners, text), told);
+    tell_length(obj::write_obj(coords, corners, text), told);
 }
 
-fn tell_lists(l: Lists, told: &mut [u32; 4])
-    ensures { told.new ≡ lists_answer l }
+fn tell_lists(answer: Result<Lists, Refusal>, told: &mut [u32; 4])
+    ensures { told.new ≡ lists_answer answer }
 {
-    match l {
-        Lists::Are { vertices, faces } => {
-            *told = [0, 0, vertices, faces];
+    match answer {
+        Ok(l) => {
+            let v = l.vertices;
+            let f = l.faces;
+            *told = [0, 0, v, f];
         }
-        Lists::Refused(r) => {
+        Err(r) => {
             let number = r.number;
             let place = r.place;
             *told = [number, place, 0, 0];

@@ -1,5 +1,6 @@
 -- Request [10], of every call that keeps the station's promise: one outcome, an answer to every claim, nothing written by a refusal, the buffers as the whole call leaves them, a yes exactly
 -- when the claim passes, and what a no names.
+use Rattle.std.specs.Prelude.{Err, Ok}
 use mathlib.Core.Path.{◌≡◌, refl, sym, ap, ◌∙◌}
 use mathlib.Core.Logic.{◌≢◌}
 use Prim.Native.Nat.{ℕ, ◌+◌, ◌*◌, ◌/◌, ◌<◌, ◌≤◌}
@@ -19,8 +20,7 @@ use Rattle.rules.specs.Answers.{written, zeroed, work_words, work_coords}
 use Rattle.rules.specs.Calls.{Lent, Buffers, final, whole_room, WholeCall}
 use Rattle.rules.specs.declared.Refusal.{Refusal}
 use Rattle.rules.specs.declared.Counts.{Counts}
-use Rattle.rules.specs.declared.Outcome.{Outcome}
-use Rattle.rules.specs.declared.Outcome.TheVariants as outcomes
+use Rattle.rules.specs.Outcome.{Outcome}
 use Rattle.station.specs.Acceptance.{same_face, Passes, far_at, face_at, held, station_outcome, judged, verdict, answer, StationCall, Plate, StationTold}
 use Rattle.station.specs.declared.Fault.TheVariants.{Counts as CountsDiffer, Face, Far}
 use Rattle.station.specs.declared.Verdict.{Verdict}
@@ -91,21 +91,21 @@ module _ (t l : ℕ) (fs : List ℕ) (xs : List ℤ) (cs : List ℕ) (ys : List 
     refusal-of-a-claim-writes-nothing r c = go said refl c.answer
       where
         go : (o : Outcome) → said ≡ o → Refused r ≡ judged o (held t ours limits cs ys) → b.new ≡ b.old
-        go (outcomes.Success n) e a = absurd (let z : ◌≡◌ {A = ℕ} 1 0 = ap refusing a ∙ held-judges t ours limits cs ys in omega arith)
-        go (outcomes.Refused q) e a = refusal-writes-nothing whole (final whole (last whole l fs xs)) asked b q (rw e at c.call)
+        go (Ok n) e a = absurd (let z : ◌≡◌ {A = ℕ} 1 0 = ap refusing a ∙ held-judges t ours limits cs ys in omega arith)
+        go (Err q) e a = refusal-writes-nothing whole (final whole (last whole l fs xs)) asked b q (rw e at c.call)
 
     -- the cage is accepted, the buffers are as the whole call leaves them, and the claim is held to the cage
     pub record Judged (r : Verdict) : Type 0 where
       pub counts : Counts
       pub few : l ≤ 1
-      pub cut : WholeCall l fs xs b (outcomes.Success counts)
+      pub cut : WholeCall l fs xs b (Ok counts)
       pub verdict : r ≡ held t ours limits cs ys
 
     pub as-the-whole-call : (r : Verdict) → ((q : Refusal) → r ≢ Refused q) → StationCall t l fs xs cs ys b r → Judged r
     as-the-whole-call r no-refusal c = go said refl c.answer
       where
         go : (o : Outcome) → said ≡ o → r ≡ judged o (held t ours limits cs ys) → Judged r
-        go (outcomes.Success n) e a =
+        go (Ok n) e a =
             let s = station-success (whole_room b.old) t l fs xs n e in
             record {
               counts = n;
@@ -120,7 +120,7 @@ module _ (t l : ℕ) (fs : List ℕ) (xs : List ℤ) (cs : List ℕ) (ys : List 
                   };
               verdict = a;
             }
-        go (outcomes.Refused q) e a = absurd (no-refusal q a)
+        go (Err q) e a = absurd (no-refusal q a)
 
     -- ---- "Accept a claimed result exactly when .."
 
@@ -139,7 +139,7 @@ module _ (t l : ℕ) (fs : List ℕ) (xs : List ℤ) (cs : List ℕ) (ys : List 
         → StationCall t l fs xs cs ys b Yes → ⊥
     reversed-gets-no-yes f h p q s c =
         let j = as-the-whole-call Yes yes-is-none c in
-        let a = our-corners l fs xs b (outcomes.Success j.counts) j.counts j.cut refl f h in
+        let a = our-corners l fs xs b (Ok j.counts) j.counts j.cut refl f h in
         rw (reversed-no ours cs f a.0 a.1.0 a.1.1 p q s) at ((yes-is-right c).turns f h)
 
     -- ---- a no names what is first: all before it pass

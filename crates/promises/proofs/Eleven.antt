@@ -1,5 +1,5 @@
 -- Request 8: no call answers 11, and C is never told it.
-use mathlib.Core.Path.{◌≡◌, sym, ap, ◌∙◌}
+use mathlib.Core.Path.{sym, ap, ◌∙◌}
 use mathlib.Core.Logic.{◌≢◌}
 use Prim.Native.Nat.{ℕ}
 use mathlib.Core.List.{List}
@@ -9,7 +9,7 @@ use lib.ListN.{get_or}
 use Rattle.rules.specs.Position.{Numbers, whole, single}
 use Rattle.rules.specs.Answers.{answer}
 use Rattle.rules.specs.Calls.{Lent, Buffers, Final, Call, whole_room, SharpCall, single_room, SingleCall, SheetCall, Told}
-use Rattle.rules.specs.declared.Outcome.{Outcome}
+use Rattle.rules.specs.Outcome.{Outcome}
 use Rattle.rules.proofs.Ends.{outcome-never-eleven, sharp-outcome-never-eleven, sheet-never-eleven}
 
 -- an answer is told by its first number

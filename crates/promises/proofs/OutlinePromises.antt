@@ -1,5 +1,6 @@
 -- What the promise of `rim_loops` says: one outcome, an answer to every call, nothing written by a refusal, the whole call's own answer but for 20, when 20 is answered, and that the
 -- list holds the one outline of the last level.
+use Rattle.std.specs.Prelude.{Err, Ok}
 use mathlib.Core.Path.{◌≡◌, refl, sym, ap, ◌∙◌, subst}
 use mathlib.Core.Logic.{◌≢◌}
 use Prim.Native.Nat.{ℕ, ◌+◌, ◌*◌, ◌/◌, ◌^◌, ◌<◌, ◌≤◌}
@@ -19,14 +20,12 @@ use Rattle.rules.specs.Answers.{answer, outcome, written}
 use Rattle.rules.specs.Calls.{Lent, Buffers, final, Call, whole_room, WholeCall}
 use Rattle.rules.specs.declared.Refusal.{Refusal}
 use Rattle.rules.specs.declared.Counts.{Counts}
-use Rattle.rules.specs.declared.Outcome.{Outcome}
-use Rattle.rules.specs.declared.Outcome.TheVariants.{Success, Refused}
+use Rattle.rules.specs.Outcome.{Outcome}
 use Rattle.loopsubdiv.proofs.Outcomes.{done}
 use Rattle.outlines.specs.Loops.{outlines, listing, outline_of, loops_of, outline_outcome, traced, OutlineCall, traced_answer, OutlineTold}
 use Rattle.outlines.specs.IsOutline.{IsOutline}
 use Rattle.outlines.specs.declared.Outline.{Outline}
-use Rattle.outlines.specs.declared.Traced.{Traced}
-use Rattle.outlines.specs.declared.Traced.TheVariants.{Success as Outlined, Refused as NotOutlined}
+use Rattle.outlines.specs.Loops.{Traced}
 use Rattle.outlines.proofs.Accepted.{outcome-short, outcome-done}
 use Rattle.outlines.proofs.Answered.{listed-over-cage, loops-kept, firsts-kept, room-over-cage, outlined, no_other, closed-has-none, behind-refused, Behind, behind-outlined, Either, as-whole, list-short, either, succeeded}
 use Rattle.promises.proofs.Promises.{agree, every-call-answers as answered-by, refusal-writes-nothing as Writes-nothing}
@@ -36,8 +35,8 @@ abbrev pub number_of : Traced → ℕ
 number_of r = get_or (traced_answer r) 0 0
 
 two-told : (o : Outcome) (rs : List (List ℕ)) → take 2 (traced_answer (traced o rs)) ≡ take 2 (answer o)
-two-told (Success c) rs = refl
-two-told (Refused r) rs = refl
+two-told (Ok c) rs = refl
+two-told (Err r) rs = refl
 
 module _ (l : ℕ) (fs : List ℕ) (xs : List ℤ) where
   abbrev rs : List (List ℕ)
@@ -84,7 +83,7 @@ module _ (l : ℕ) (fs : List ℕ) (xs : List ℤ) where
 
   module _ (b : Lent (Buffers ℤ)) (list : Lent (List ℕ)) where
     -- a refusal writes nothing, the list included
-    pub refusal-writes-nothing : (r : Refusal) → OutlineCall l fs xs b list (NotOutlined r) → b.new ≡ b.old × list.new ≡ list.old
+    pub refusal-writes-nothing : (r : Refusal) → OutlineCall l fs xs b list (Err r) → b.new ≡ b.old × list.new ≡ list.old
     refusal-writes-nothing r c =
         let e = behind-refused c.outcome rs r c.answer in (
           Writes-nothing whole (final whole (last whole l fs xs)) (asked list.old) b r (subst (λ (x : Outcome). Call whole (asked list.old) (final whole (last whole l fs xs)) b x) e c.call),
@@ -109,7 +108,7 @@ module _ (l : ℕ) (fs : List ℕ) (xs : List ℤ) where
         go (list-short k e h q) = absurd (d (ap number_of c.answer ∙ ap (λ (z : Outcome). number_of (traced z rs)) (c.call.answer ∙ q)))
 
     -- ---- when 20 is answered: the whole call succeeds, and the list is shorter than 2^l R + loops, both of the control cage
-    module _ (k : Counts) (e : outcome whole (whole_room b.old) l fs xs ≡ Success k) where
+    module _ (k : Counts) (e : outcome whole (whole_room b.old) l fs xs ≡ Ok k) where
       passes : refusal whole l fs xs ≡ none
       passes = (done whole (whole_room b.old) l fs xs k e).passes
 
@@ -119,21 +118,21 @@ module _ (l : ℕ) (fs : List ℕ) (xs : List ℤ) where
       room : length (listing rs) ≡ needed
       room = room-over-cage l fs xs passes
 
-      pub short-list-is-20 : (r : Traced) → OutlineCall l fs xs b list r → length list.old < needed → r ≡ NotOutlined (record { number = 20; place = 0 })
+      pub short-list-is-20 : (r : Traced) → OutlineCall l fs xs b list r → length list.old < needed → r ≡ Err (record { number = 20; place = 0 })
       short-list-is-20 r c h =
           c.answer ∙ ap (λ (z : Outcome). traced z rs) (c.call.answer ∙ outcome-short (whole_room b.old) (length list.old) l fs xs k e (omega (arith, room, h)))
 
-      pub long-list-succeeds : (r : Traced) → OutlineCall l fs xs b list r → needed ≤ length list.old → r ≡ Outlined (outline_of rs)
+      pub long-list-succeeds : (r : Traced) → OutlineCall l fs xs b list r → needed ≤ length list.old → r ≡ Ok (outline_of rs)
       long-list-succeeds r c h =
           c.answer ∙ ap (λ (z : Outcome). traced z rs) (c.call.answer ∙ outcome-done (whole_room b.old) (length list.old) l fs xs k e (omega (arith, room, h)))
 
     -- ---- after success
 
-    module _ (a : Outline) (c : OutlineCall l fs xs b list (Outlined a)) where
+    module _ (a : Outline) (c : OutlineCall l fs xs b list (Ok a)) where
       behind : Behind c.outcome rs a
       behind = behind-outlined c.outcome rs a c.answer
 
-      succeeds : (outcome whole (whole_room b.old) l fs xs ≡ Success behind.counts) × (length (listing rs) ≤ length list.old)
+      succeeds : (outcome whole (whole_room b.old) l fs xs ≡ Ok behind.counts) × (length (listing rs) ≤ length list.old)
       succeeds = succeeded (whole_room b.old) (length list.old) l fs xs behind.counts (sym c.call.answer ∙ behind.is)
 
       accepts : refusal whole l fs xs ≡ none

@@ -8,7 +8,7 @@ use Rattle.rules.specs.Position.{whole}
 use Rattle.rules.specs.Sharp.{sharp_outcome}
 use Rattle.rules.specs.Sheets.{sheet_outcome}
 use Rattle.rules.specs.Calls.{Lent, Buffers, final, whole_room, sharp_final, SharpCall, sheet_last, SheetCall, Told}
-use Rattle.rules.specs.declared.Outcome.{Outcome}
+use Rattle.rules.specs.Outcome.{Outcome}
 use Rattle.promises.proofs.Promises.{one-outcome, one-outcome-told}
 
 module _ (linked plain : Lent (Buffers ℤ)) (same : linked.old ≡ plain.old) where

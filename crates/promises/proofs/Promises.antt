@@ -1,5 +1,6 @@
 -- What the promises say together: one outcome for each call, an answer to every call, nothing written by a refusal, the counts of the last level, and demand 3 of the
 -- numbers that stand in the positions buffer.
+use Rattle.std.specs.Prelude.{Err, Ok}
 use mathlib.Core.Path.{◌≡◌, refl, sym, ap, ◌∙◌}
 use Prim.Native.Nat.{ℕ, ◌+◌, ◌*◌, ◌/◌, ◌^◌, ◌<◌, ◌≤◌}
 use native.Mathlib.Omega.{arith}
@@ -20,8 +21,7 @@ use Rattle.rules.specs.Answers.{answer, counted, unless, outcome, written, zeroe
 use Rattle.rules.specs.Refusals.{Room, check, when}
 use Rattle.rules.specs.declared.Refusal.{Refusal}
 use Rattle.rules.specs.declared.Counts.{Counts}
-use Rattle.rules.specs.declared.Outcome.{Outcome}
-use Rattle.rules.specs.declared.Outcome.TheVariants.{Success, Refused}
+use Rattle.rules.specs.Outcome.{Outcome}
 use Rattle.rules.proofs.Demand.{demand-3}
 use Rattle.rules.proofs.Cage.{accepted}
 use Rattle.rules.proofs.Sound.{Sound}
@@ -82,7 +82,7 @@ module _ (𝓝 : Numbers) (m : Final 𝓝.N) where
           call = record { answer = refl; positions = refl; indices = refl; words = refl; work = refl };
         }
 
-    pub refusal-writes-nothing : (b : Lent (Buffers 𝓝.N)) (r : Refusal) → Call 𝓝 o m b (Refused r) → b.new ≡ b.old
+    pub refusal-writes-nothing : (b : Lent (Buffers 𝓝.N)) (r : Refusal) → Call 𝓝 o m b (Err r) → b.new ≡ b.old
     refusal-writes-nothing b r c = same c.positions c.indices c.words c.work
 
 -- ---- for C: where two outcomes that are allowed are one, they are told alike
@@ -95,7 +95,7 @@ one-outcome-told P Q X one told also c d =
 -- ---- a call of either engine that succeeds
 
 module _ (𝓝 : Numbers) (rooms : Buffers 𝓝.N → Counts → List Room) (l : ℕ) (fs : List ℕ) (xs : List 𝓝.N) (b : Lent (Buffers 𝓝.N)) (c : Counts)
-    (call : Call 𝓝 (λ old. outcome 𝓝 (rooms old) l fs xs) (final 𝓝 (last 𝓝 l fs xs)) b (Success c)) where
+    (call : Call 𝓝 (λ old. outcome 𝓝 (rooms old) l fs xs) (final 𝓝 (last 𝓝 l fs xs)) b (Ok c)) where
   abbrev control : Mesh
   control = cage (length xs / 3) fs
 
@@ -137,7 +137,7 @@ module _ (𝓝 : Numbers) (rooms : Buffers 𝓝.N → Counts → List Room) (l :
 
 -- ---- the whole call
 
-module _ (l : ℕ) (fs : List ℕ) (xs : List ℤ) (b : Lent (Buffers ℤ)) (c : Counts) (call : WholeCall l fs xs b (Success c)) where
+module _ (l : ℕ) (fs : List ℕ) (xs : List ℤ) (b : Lent (Buffers ℤ)) (c : Counts) (call : WholeCall l fs xs b (Ok c)) where
   pub whole-rooms : WholeRoom (length b.old.positions) (length b.old.indices) (length b.old.words) (length b.old.work) c
   whole-rooms = whole_room_lem (length b.old.positions) (length b.old.indices) (length b.old.words) (length b.old.work) c (told whole whole_room l fs xs b c call).room
 
@@ -174,10 +174,10 @@ module _ (l : ℕ) (fs : List ℕ) (xs : List Float) where
         ),
       )
 
-  pub refusal-writes-no-normals : (b : Lent (Buffers Float)) (ns : Lent (List Float)) (r : Refusal) → SingleCall l fs xs b ns (Refused r) → b.new ≡ b.old × ns.new ≡ ns.old
+  pub refusal-writes-no-normals : (b : Lent (Buffers Float)) (ns : Lent (List Float)) (r : Refusal) → SingleCall l fs xs b ns (Err r) → b.new ≡ b.old × ns.new ≡ ns.old
   refusal-writes-no-normals b ns r c = (refusal-writes-nothing single (final single (last single l fs xs)) (λ old. outcome single (single_room ns.old old) l fs xs) b r c.call, c.normals)
 
-  pub single-faces : (b : Lent (Buffers Float)) (ns : Lent (List Float)) (c : Counts) → SingleCall l fs xs b ns (Success c) → take (3 * c.faces) b.new.indices ≡ (last single l fs xs).mesh.faces
+  pub single-faces : (b : Lent (Buffers Float)) (ns : Lent (List Float)) (c : Counts) → SingleCall l fs xs b ns (Ok c) → take (3 * c.faces) b.new.indices ≡ (last single l fs xs).mesh.faces
   single-faces b ns c s =
       let r = single-room (length b.old.positions) (length ns.old) (length b.old.indices) (length b.old.words) (length b.old.work) c (told single (single_room ns.old) l fs xs b c s.call).room in
       faces-stand single (single_room ns.old) l fs xs b c s.call r.indices
@@ -185,7 +185,7 @@ module _ (l : ℕ) (fs : List ℕ) (xs : List Float) where
 -- ---- both engines answer with one mesh: the same counts, and the same faces in their buffers
 
 pub same-faces : (l : ℕ) (fs : List ℕ) (xs : List ℤ) (ys : List Float) (b : Lent (Buffers ℤ)) (f : Lent (Buffers Float)) (ns : Lent (List Float)) (c d : Counts) → length xs ≡ length ys
-    → WholeCall l fs xs b (Success c) → SingleCall l fs ys f ns (Success d) → c ≡ d × take (3 * c.faces) b.new.indices ≡ take (3 * d.faces) f.new.indices
+    → WholeCall l fs xs b (Ok c) → SingleCall l fs ys f ns (Ok d) → c ≡ d × take (3 * c.faces) b.new.indices ≡ take (3 * d.faces) f.new.indices
 same-faces l fs xs ys b f ns c d e w s =
     let m = same-mesh whole single l fs xs ys e in (
       sym (told whole whole_room l fs xs b c w).counts ∙ ap {B = Counts} (λ a. counted a) m ∙ (told single (single_room ns.old) l fs ys f d s.call).counts,
@@ -200,12 +200,12 @@ one-outcome-of-a-sheet-told bytes b d told also lent c k =
 
 -- ---- a sheet that succeeds is the whole call on its lists
 
-past-15 : (o : Option Refusal) (x : Outcome) (c : Counts) → unless o x ≡ Success c → x ≡ Success c
+past-15 : (o : Option Refusal) (x : Outcome) (c : Counts) → unless o x ≡ Ok c → x ≡ Ok c
 past-15 none x c e = e
 past-15 (some r) x c e = absurd (let z : ◌≡◌ {A = ℕ} 0 1 = cc in omega arith)
 
-module _ (bytes : List ℕ) (b : Lent (Buffers ℤ)) (c : Counts) (s : SheetCall bytes b (Success c)) where
-  pub call-of-a-sheet : WholeCall (sheet_levels bytes) (sheet_indices bytes) (sheet_coords bytes) b (Success c)
+module _ (bytes : List ℕ) (b : Lent (Buffers ℤ)) (c : Counts) (s : SheetCall bytes b (Ok c)) where
+  pub call-of-a-sheet : WholeCall (sheet_levels bytes) (sheet_indices bytes) (sheet_coords bytes) b (Ok c)
   unfolding sheet_outcome
   call-of-a-sheet =
       record {

@@ -1,4 +1,5 @@
 -- Turning the plate: two whole calls, on a cage and on that cage turned, with one list of sharp sides.
+use Rattle.std.specs.Prelude.{Ok}
 use mathlib.Core.Path.{◌≡◌, sym, ap, ◌∙◌}
 use Prim.Native.Nat.{ℕ, ◌*◌}
 use mathlib.Core.List.{List}
@@ -10,15 +11,14 @@ use Rattle.rules.specs.Axes.{Turn, turned}
 use Rattle.rules.specs.Sharp.{sharp_outcome}
 use Rattle.rules.specs.Calls.{Lent, Buffers, whole_room, SharpCall}
 use Rattle.rules.specs.declared.Counts.{Counts}
-use Rattle.rules.specs.declared.Outcome.{Outcome}
-use Rattle.rules.specs.declared.Outcome.TheVariants.{Success}
+use Rattle.rules.specs.Outcome.{Outcome}
 use Rattle.rules.proofs.Axes.{turning}
 use Rattle.promises.proofs.Marks.{accepted-list, sharp-faces, sharp-positions}
 
-module _ (l : ℕ) (sharp fs : List ℕ) (xs : List ℤ) (b : Lent (Buffers ℤ)) (c : Counts) (call : SharpCall l sharp fs xs b (Success c)) where
+module _ (l : ℕ) (sharp fs : List ℕ) (xs : List ℤ) (b : Lent (Buffers ℤ)) (c : Counts) (call : SharpCall l sharp fs xs b (Ok c)) where
   -- the answer is the same, the faces keep their order, and the positions are those of the plate turned
   pub record TurnedCall (t : Turn) (d : Lent (Buffers ℤ)) (r : Outcome) : Type 0 where
-    pub answer : r ≡ Success c
+    pub answer : r ≡ Ok c
     pub faces : take (3 * c.faces) d.new.indices ≡ take (3 * c.faces) b.new.indices
     pub positions : take (3 * c.vertices) d.new.positions ≡ turned t (take (3 * c.vertices) b.new.positions)
 
@@ -26,8 +26,8 @@ module _ (l : ℕ) (sharp fs : List ℕ) (xs : List ℤ) (b : Lent (Buffers ℤ)
   pub turning-of-the-calls : (t : Turn) (d : Lent (Buffers ℤ)) (r : Outcome) → whole_room d.old ≡ whole_room b.old → SharpCall l sharp fs (turned t xs) d r → TurnedCall t d r
   turning-of-the-calls t d r room again =
       let w = turning t l sharp fs xs (accepted-list l sharp fs xs b c call).listed.passes (whole_room d.old) in
-      let a : r ≡ Success c = again.answer ∙ w.answer ∙ ap {B = Outcome} (λ (f : Counts → List Room). sharp_outcome whole f l sharp fs xs) room ∙ sym call.answer in
-      let other : SharpCall l sharp fs (turned t xs) d (Success c) = rw a at again in
+      let a : r ≡ Ok c = again.answer ∙ w.answer ∙ ap {B = Outcome} (λ (f : Counts → List Room). sharp_outcome whole f l sharp fs xs) room ∙ sym call.answer in
+      let other : SharpCall l sharp fs (turned t xs) d (Ok c) = rw a at again in
       record {
         answer = a;
         faces = sharp-faces l sharp fs (turned t xs) d c other ∙ w.faces ∙ sym (sharp-faces l sharp fs xs b c call);

@@ -1,5 +1,5 @@
 -- Wrong answers shut out by name: on T or H the promise of the whole call has no room for such an answer, since the definition computes to another.
-use Rattle.std.specs.Prelude.{◌≡◌, refl, ◌≢◌, ℕ, List, [], ◌∷◌, get_or, take, replicate, ℤ, pos, nat_abs}
+use Rattle.std.specs.Prelude.{◌≡◌, refl, ◌≢◌, ℕ, List, [], ◌∷◌, get_or, take, replicate, ℤ, pos, nat_abs, Err, Ok}
 use Rattle.std.proofs.Common.{sym, ap, ◌∙◌, arith, get_or-take}
 use Rattle.whole.specs.Whole.{nearest}
 use Rattle.rules.specs.Mesh.{links, fan, refined, cage}
@@ -9,8 +9,7 @@ use Rattle.rules.specs.Refusals.{refusal, shape_refusal, range_refusal, list_ref
 use Rattle.rules.specs.Answers.{answer, outcome, whole_rooms, written, zeroed, work_words, work_coords}
 use Rattle.rules.specs.Cases.{T-faces, T-points, H-faces, H-points, anywhere}
 use Rattle.rules.specs.declared.Refusal.{Refusal}
-use Rattle.rules.specs.declared.Outcome.{Outcome}
-use Rattle.rules.specs.declared.Outcome.TheVariants.{Success, Refused}
+use Rattle.rules.specs.Outcome.{Outcome}
 use Rattle.rules.specs.Calls.{Buffers, WholeCall}
 
 -- room for T at two levels and for H at none, every entry 9
@@ -22,7 +21,7 @@ abbrev Leaves : ℕ → List ℕ → List ℤ → Outcome → Buffers ℤ → Ty
 Leaves l fs xs r left = WholeCall l fs xs (record { old = blank; new = left }) r
 
 abbrev pub counts : ℕ → ℕ → ℕ → Outcome
-counts v f s = Success (record { vertices = v; faces = f; rims = s })
+counts v f s = Ok (record { vertices = v; faces = f; rims = s })
 
 -- vertices, as answered
 abbrev vertices_of : Outcome → ℕ
@@ -99,8 +98,8 @@ T-2-second = refl
 
 -- ---- "refusing all cages": T is not refused
 
-pub refusing-all : (r : Refusal) (left : Buffers ℤ) → Leaves 0 T-faces T-points (Refused r) left → ⊥
-refusing-all r left c = let e : Refused r ≡ counts 3 1 3 = c.answer ∙ T-0 in omega (arith, ap vertices_of e)
+pub refusing-all : (r : Refusal) (left : Buffers ℤ) → Leaves 0 T-faces T-points (Err r) left → ⊥
+refusing-all r left c = let e : Err r ≡ counts 3 1 3 = c.answer ∙ T-0 in omega (arith, ap vertices_of e)
 
 -- ---- "one fixed plate": not one answer for T and H, nor one list of positions for T and for three vertices at one point
 

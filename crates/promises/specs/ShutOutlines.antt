@@ -1,5 +1,6 @@
 -- Request [9], wrong answers shut out by name: on T the promise of `rim_loops` has room for one answer and one list, since the definition computes to them.
-use Rattle.std.specs.Prelude.{◌≡◌, refl, ◌≢◌, ℕ, List, [], ◌∷◌, length, get_or, replicate, ℤ}
+use Rattle.std.specs.Prelude.{Ok}
+use Rattle.std.specs.Prelude.{◌≡◌, refl, ◌≢◌, ℕ, List, [], ◌∷◌, length, get_or, replicate, ℤ, Err}
 use Rattle.std.proofs.Common.{ap, ◌∙◌, arith}
 use Rattle.whole.specs.Whole.{nearest}
 use Rattle.rules.specs.Mesh.{links, fan, refined, cage}
@@ -8,11 +9,9 @@ use Rattle.rules.specs.Refusals.{refusal, shape_refusal, range_refusal, list_ref
 use Rattle.rules.specs.Answers.{outcome, written}
 use Rattle.rules.specs.Calls.{Buffers, whole_room}
 use Rattle.rules.specs.Cases.{T-faces, T-points}
-use Rattle.rules.specs.declared.Outcome.{Outcome}
-use Rattle.rules.specs.declared.Outcome.TheVariants.{Refused}
+use Rattle.rules.specs.Outcome.{Outcome}
 use Rattle.outlines.specs.Loops.{around, outlines, listing, loops_of, outline_outcome, traced, OutlineCall}
-use Rattle.outlines.specs.declared.Traced.{Traced}
-use Rattle.outlines.specs.declared.Traced.TheVariants.{Success as Outlined, Refused as NotOutlined}
+use Rattle.outlines.specs.Loops.{Traced}
 use Rattle.promises.specs.Shut.{blank, counts}
 
 -- a list with room for seven entries, every one 9; and one with room for three
@@ -39,7 +38,7 @@ T-1 : Answers 1 seven (counts 6 4 6)
 unfolding nearest links fan refined cage moved new_positions limits finer levels positions shape_refusal range_refusal list_refusal fan_refusal size_refusal refusal outcome around outlines outline_outcome
 T-1 = refl
 
-T-brief : Answers 0 brief (Refused (record { number = 20; place = 0 }))
+T-brief : Answers 0 brief (Err (record { number = 20; place = 0 }))
 unfolding nearest links fan refined cage moved new_positions limits finer levels positions shape_refusal range_refusal list_refusal fan_refusal size_refusal refusal outcome around outlines outline_outcome
 T-brief = refl
 
@@ -61,15 +60,15 @@ module _ (r : Traced) (left : Buffers ℤ) (new : List ℕ) where
     c.left ∙ ap {B = List ℕ} (λ (x : Outcome). written x (listing (loops_of l T-faces T-points)) old) (c.call.answer ∙ e) ∙ ap {B = List ℕ} (λ (x : List (List ℕ)). written o (listing x) old) f,
   )
 
-  at-0 : Lists 0 seven r left new → (r ≡ Outlined (record { loops = 1; listed = 3 })) × (new ≡ 3 ∷ 0 ∷ 1 ∷ 2 ∷ 9 ∷ 9 ∷ 9 ∷ [])
+  at-0 : Lists 0 seven r left new → (r ≡ Ok (record { loops = 1; listed = 3 })) × (new ≡ 3 ∷ 0 ∷ 1 ∷ 2 ∷ 9 ∷ 9 ∷ 9 ∷ [])
   at-0 c = known 0 seven (counts 3 1 3) ((0 ∷ 1 ∷ 2 ∷ []) ∷ []) c T-0 T-0-loops
 
-  at_1 : Lists 1 seven r left new → (r ≡ Outlined (record { loops = 1; listed = 6 })) × (new ≡ 6 ∷ 0 ∷ 3 ∷ 1 ∷ 4 ∷ 2 ∷ 5 ∷ [])
+  at_1 : Lists 1 seven r left new → (r ≡ Ok (record { loops = 1; listed = 6 })) × (new ≡ 6 ∷ 0 ∷ 3 ∷ 1 ∷ 4 ∷ 2 ∷ 5 ∷ [])
   at_1 c = known 1 seven (counts 6 4 6) ((0 ∷ 3 ∷ 1 ∷ 4 ∷ 2 ∷ 5 ∷ []) ∷ []) c T-1 T-1-loops
 
   -- list room short: 20 at 0, and the list as it was
-  pub brief-list : Lists 0 brief r left new → (r ≡ NotOutlined (record { number = 20; place = 0 })) × (new ≡ brief)
-  brief-list c = known 0 brief (Refused (record { number = 20; place = 0 })) ((0 ∷ 1 ∷ 2 ∷ []) ∷ []) c T-brief T-0-loops
+  pub brief-list : Lists 0 brief r left new → (r ≡ Err (record { number = 20; place = 0 })) × (new ≡ brief)
+  brief-list c = known 0 brief (Err (record { number = 20; place = 0 })) ((0 ∷ 1 ∷ 2 ∷ []) ∷ []) c T-brief T-0-loops
 
   entry_of : (i : ℕ) (l : List ℕ) → new ≡ l → get_or new i 0 ≡ get_or l i 0
   entry_of i l e = ap (λ (z : List ℕ). get_or z i 0) e

@@ -1,5 +1,5 @@
 -- Wrong answers shut out by name, of the f32 call: as in Shut, on the same cages, with normals. Floats are told apart by their bits.
-use Rattle.std.specs.Prelude.{◌≡◌, refl, ◌≢◌, ℕ, List, [], ◌∷◌, map, get_or, take, replicate, ℤ, Float}
+use Rattle.std.specs.Prelude.{◌≡◌, refl, ◌≢◌, ℕ, List, [], ◌∷◌, map, get_or, take, replicate, ℤ, Float, Err}
 use Rattle.std.proofs.Common.{sym, ap, ◌∙◌, arith, get_or-take}
 use Rattle.std.specs.Float.{binary32}
 use Rattle.std.specs.Float.Ieee.{add, sub, mul, div, neg, of_int, of_bits, to_bits, le}
@@ -13,8 +13,7 @@ use Rattle.rules.specs.Refusals.{refusal, shape_refusal, range_refusal, list_ref
 use Rattle.rules.specs.Answers.{answer, outcome, single_rooms, written, zeroed, work_words, work_coords}
 use Rattle.rules.specs.Cases.{T-faces, T-points, H-faces, H-points, anywhere}
 use Rattle.rules.specs.declared.Refusal.{Refusal}
-use Rattle.rules.specs.declared.Outcome.{Outcome}
-use Rattle.rules.specs.declared.Outcome.TheVariants.{Refused}
+use Rattle.rules.specs.Outcome.{Outcome}
 use Rattle.rules.specs.Calls.{Buffers, SingleCall}
 use Rattle.promises.specs.Shut.{counts}
 
@@ -122,8 +121,8 @@ T-2-second = refl
 
 -- ---- "refusing all cages"
 
-pub refusing-all : (r : Refusal) (left : Buffers Float) (new : List Float) → Leaves 0 T-faces (floats T-points) (Refused r) left new → ⊥
-refusing-all r left new c = let e : Refused r ≡ counts 3 1 3 = c.call.answer ∙ T-0 in omega (arith, ap vertices_of e)
+pub refusing-all : (r : Refusal) (left : Buffers Float) (new : List Float) → Leaves 0 T-faces (floats T-points) (Err r) left new → ⊥
+refusing-all r left new c = let e : Err r ≡ counts 3 1 3 = c.call.answer ∙ T-0 in omega (arith, ap vertices_of e)
 
 -- ---- "one fixed plate"
 

@@ -1,22 +1,15 @@
--- Laws of the reader: minus one less a number, one number more of a block, and the blocks by their bytes.
-use Prim.Native.Nat.{ℕ, zero, suc, ◌+◌, ◌-◌, ◌*◌, ◌≤◌}
+-- Laws of the reader: one number more of a block, a sheet's length, and the blocks by their bytes.
+use Prim.Native.Nat.{ℕ, ◌+◌, ◌-◌, ◌*◌}
 use mathlib.Core.Path.{◌≡◌, refl, ap}
 use mathlib.Core.Bool.{Bool, true, false, not, ◌||◌}
 use mathlib.Core.List.{List, [], ◌∷◌}
 use native.Mathlib.Omega.{arith}
-use native.Mathlib.Nat.{zero-add}
-use lib.IntN.{pos, negsuc, ◌-ℤ◌}
 use lib.ListN.{length, set, take}
 use lib.Seq.{sets}
 use lib.Dec.{T, ltb, eqb, eqb→eq}
 use Rattle.lists.specs.Lists.{rows, part}
 use Rattle.lists.proofs.Stores.{length-rows, sets-row}
 use Rattle.rules.specs.Sheets.{word_at, trailer, sheet_verts, sheet_faces, bad_sheet, vertex_block, face_block}
-use Rattle.reader.specs.Reading.{sheet_of, vertex_bytes, face_bytes}
-
-pub minus_one : (x : ℕ) → negsuc 0 -ℤ pos x ≡ negsuc x
-minus_one zero = refl
-minus_one (suc x) = rw zero-add
 
 -- one number more
 pub one_more : {A : Type 0} (g : ℕ → A) (l : List A) (n : ℕ) → set (sets l 0 (rows (λ k. g k ∷ []) n)) n (g n) ≡ sets l 0 (rows (λ k. g k ∷ []) (n + 1))
@@ -37,27 +30,21 @@ good_length b e =
     eqb→eq (length b) (12 * sheet_verts b + 12 * sheet_faces b + 20)
     (last_of (ltb (length b) 20 || not (eqb (trailer b 0) 0) || not (eqb (trailer b 8) (12 * sheet_verts b))) (eqb (length b) (12 * sheet_verts b + 12 * sheet_faces b + 20)) e)
 
+-- ---- the blocks, as the trailer that is read says them
+
 module _ (b : List ℕ) where
-  bytes-by : (t : Bool) → bad_sheet b ≡ t → vertex_bytes (sheet_of b) + face_bytes (sheet_of b) ≤ length b
-  unfolding sheet_of
-  bytes-by true e = rw e (omega arith)
-  bytes-by false e = rw e (omega (arith, good_length b e))
+  pub no-vertices : bad_sheet b ≡ true → take 0 b ≡ vertex_block b
+  unfolding vertex_block
+  no-vertices e = rw e refl
 
-  pub bytes-within : vertex_bytes (sheet_of b) + face_bytes (sheet_of b) ≤ length b
-  bytes-within = bytes-by (bad_sheet b) refl
+  pub no-faces : bad_sheet b ≡ true → take 0 b ≡ face_block b
+  unfolding face_block
+  no-faces e = rw e refl
 
-  vertices-by : (t : Bool) → bad_sheet b ≡ t → take (vertex_bytes (sheet_of b)) b ≡ vertex_block b
-  unfolding sheet_of vertex_block
-  vertices-by true e = rw e
-  vertices-by false e = rw e
+  pub vertices-are : bad_sheet b ≡ false → take (12 * sheet_verts b) b ≡ vertex_block b
+  unfolding vertex_block
+  vertices-are e = rw e refl
 
-  pub vertices-are : take (vertex_bytes (sheet_of b)) b ≡ vertex_block b
-  vertices-are = vertices-by (bad_sheet b) refl
-
-  faces-by : (t : Bool) → bad_sheet b ≡ t → part (vertex_bytes (sheet_of b)) (face_bytes (sheet_of b)) b ≡ face_block b
-  unfolding sheet_of face_block
-  faces-by true e = rw e
-  faces-by false e = rw e
-
-  pub faces-are : part (vertex_bytes (sheet_of b)) (face_bytes (sheet_of b)) b ≡ face_block b
-  faces-are = faces-by (bad_sheet b) refl
+  pub faces-are : bad_sheet b ≡ false → part (12 * sheet_verts b) (12 * sheet_faces b) b ≡ face_block b
+  unfolding face_block
+  faces-are e = rw e refl

@@ -1,27 +1,18 @@
 // Sheets: 01, "Sheets and limits". The reader hands back each block as that stretch of the lent bytes.
 #![tactic(auto)]
 
-ghost use Rattle.std.specs.Prelude.{◌≡◌, ◌+◌, ◌*◌, ◌≤◌, ◌<◌, length};
+ghost use Rattle.std.specs.Prelude.{◌≡◌, ℕ, [], ◌∷◌, ◌+◌, ◌*◌, ◌≤◌, ◌<◌, length};
 ghost use Rattle.std.proofs.lemmas.List.Edits.{sets};
-ghost use Rattle.rules.specs.Sheets.{word_at, words_of, coords_of, vertex_block, face_block};
-ghost use Rattle.rules.specs.Sheets.{signed as signed_of};
-ghost use Rattle.reader.specs.Reading.{sheet_of, vertex_bytes, face_bytes};
+ghost use Rattle.lists.specs.Lists.{rows};
+ghost use Rattle.rules.specs.Sheets.{word_at, signed, unsigned, vertex_block, face_block};
+ghost use Rattle.reader.specs.Reading.{sheet_of};
 
-// What the trailer says, or refusal 15.
+// What the trailer says.
 #[derive(Clone, Copy)]
-pub enum Sheet {
-    Is {
-        vertices: u32,
-        faces: u32,
-        levels: u32,
-    },
-    Refused,
-}
-
-fn wide(b: u8) -> u32
-    ensures { (result ≡ b) × (result < 256) }
-{
-    b as u32
+pub struct Sheet {
+    pub vertices: u32,
+    pub faces: u32,
+    pub levels: u32,
 }
 
 // Little endian.
@@ -29,110 +20,103 @@ pub fn word_at(b: &[u8], i: usize) -> u32
     requires { i + 4 ≤ length b.now }
     ensures { result ≡ word_at b.now i }
 {
-    wide(b[i]) + 256 * wide(b[i + 1]) + 65536 * wide(b[i + 2]) + 16777216 * wide(b[i + 3])
+    u32::from_le_bytes([b[i], b[i + 1], b[i + 2], b[i + 3]])
 }
 
-fn signed(w: u32) -> i32
-    ensures { result ≡ signed_of w }
-{
-    if w < 2147483648 {
-        w as i32
-    } else {
-        -1 - ((4294967295 - w) as i32)
+// A number that stands in a sheet as a word: an unsigned one as itself, a signed one by its bits.
+pub trait Number: Copy {
+    ghost of_word: { ℕ → Self };
+
+    ghost word: { Self → ℕ };
+
+    fn of_word(w: u32) -> Self
+        ensures { result ≡ of_word w };
+
+    fn word(self) -> u32
+        ensures { result ≡ word self };
+}
+
+impl Number for u32 {
+    ghost of_word = { λ w. w };
+
+    ghost word = { λ w. w };
+
+    fn of_word(w: u32) -> u32 {
+        w
+    }
+
+    fn word(self) -> u32 {
+        self
     }
 }
 
-fn coord_at(b: &[u8], i: usize) -> i32
-    requires { i + 4 ≤ length b.now }
-    ensures { result ≡ signed_of (word_at b.now i) }
-{
-    signed(word_at(b, i))
+impl Number for i32 {
+    ghost of_word = { signed };
+
+    ghost word = { unsigned };
+
+    fn of_word(w: u32) -> i32 {
+        w.cast_signed()
+    }
+
+    fn word(self) -> u32 {
+        self.cast_unsigned()
+    }
 }
 
-// 15 is exact: 12V and 12F are taken in 64 bits, where they cannot wrap.
-pub fn read_sheet(b: &[u8]) -> Sheet
+// None is refusal 15, and that is exact: 12V and 12F are taken in 64 bits, where they cannot wrap.
+pub fn read_sheet(b: &[u8]) -> Option<Sheet>
     ensures { result ≡ sheet_of b.now }
 {
     let n = b.len();
     if n < 20 {
-        return Sheet::Refused;
+        return None;
     }
     let t = n - 20;
     if word_at(b, t) != 0 {
-        return Sheet::Refused;
+        return None;
     }
     let vertices = word_at(b, t + 4);
     if word_at(b, t + 8) as u64 != 12 * (vertices as u64) {
-        return Sheet::Refused;
+        return None;
     }
     let faces = word_at(b, t + 12);
     if n as u64 != 12 * (vertices as u64) + 12 * (faces as u64) + 20 {
-        return Sheet::Refused;
+        return None;
     }
-    Sheet::Is {
-        vertices: vertices,
-        faces: faces,
+    Some(Sheet {
+        vertices,
+        faces,
         levels: word_at(b, t + 16),
-    }
+    })
 }
 
-fn vertex_bytes(s: Sheet) -> usize
-    ensures { result ≡ vertex_bytes s }
-{
-    match s {
-        Sheet::Is {
-            vertices,
-            faces,
-            levels,
-        } => 12 * (vertices as usize),
-        Sheet::Refused => 0,
-    }
-}
-
-fn face_bytes(s: Sheet) -> usize
-    ensures { result ≡ face_bytes s }
-{
-    match s {
-        Sheet::Is {
-            vertices,
-            faces,
-            levels,
-        } => 12 * (faces as usize),
-        Sheet::Refused => 0,
-    }
-}
-
-pub fn vertex_block<'a>(b: &'a [u8]) -> &'a [u8]
+pub fn vertex_block(b: &[u8]) -> &[u8]
     ensures { result.now ≡ vertex_block b.now }
 {
-    let n = vertex_bytes(read_sheet(b));
-    &b[..n]
+    let Some(s) = read_sheet(b) else {
+        return &b[..0];
+    };
+    &b[..12 * s.vertices as usize]
 }
 
-pub fn face_block<'a>(b: &'a [u8]) -> &'a [u8]
+pub fn face_block(b: &[u8]) -> &[u8]
     ensures { result.now ≡ face_block b.now }
 {
-    let s = read_sheet(b);
-    let start = vertex_bytes(s);
-    let end = start + face_bytes(s);
+    let Some(s) = read_sheet(b) else {
+        return &b[..0];
+    };
+    let start = 12 * s.vertices as usize;
+    let end = start + 12 * s.faces as usize;
     &b[start..end]
 }
 
 // The numbers of a block, into the front of what is lent.
-pub fn words_from(b: &[u8], n: usize, s: &mut [u32])
+pub fn numbers_from<N: Number>(b: &[u8], n: usize, s: &mut [N])
     requires { (4 * n ≤ length b.now) × (n ≤ length s.old) }
-    ensures { s.new ≡ sets s.old 0 (words_of b.now n) }
+    ensures { s.new ≡ sets s.old 0 (rows (λ k. N.of_word (word_at b.now (4 * k)) ∷ []) n) }
 {
     for k in 0..n {
-        s[k] = word_at(b, 4 * k);
-    }
-}
-
-pub fn coords_from(b: &[u8], n: usize, s: &mut [i32])
-    requires { (4 * n ≤ length b.now) × (n ≤ length s.old) }
-    ensures { s.new ≡ sets s.old 0 (coords_of b.now n) }
-{
-    for k in 0..n {
-        s[k] = coord_at(b, 4 * k);
+        s[k] = N::of_word(word_at(b, 4 * k));
     }
 }

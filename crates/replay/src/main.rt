@@ -5,15 +5,10 @@ ghost use Rattle.std.specs.Prelude.{◌≡◌, ◌≤◌, length};
 
 use rules::Outcome;
 
+// Stays: crate `io`, not std's `Read` and `Write`, as crate listing says.
 const STDIN_FILENO: i32 = 0;
 
 const STDOUT_FILENO: i32 = 1;
-
-fn wide(b: u8) -> u32
-    ensures { result ≤ 255 }
-{
-    b as u32
-}
 
 // Word k of the bytes, little endian; past their end 0.
 fn word(b: &[u8], k: usize) -> u32 {
@@ -24,7 +19,7 @@ fn word(b: &[u8], k: usize) -> u32 {
     if b.len() < i + 4 {
         return 0;
     }
-    wide(b[i]) + 256 * wide(b[i + 1]) + 65536 * wide(b[i + 2]) + 16777216 * wide(b[i + 3])
+    u32::from_le_bytes([b[i], b[i + 1], b[i + 2], b[i + 3]])
 }
 
 // The float of a stored word. No stored word is an infinity or a NaN.
@@ -35,56 +30,39 @@ fn float(w: u32) -> f32 {
     f32::from_bits(w)
 }
 
-// No stored cage has over 1,024 faces or vertices, or 16,384 words.
-fn words_of(b: &[u8], at: usize, n: usize) -> [u32; 3072]
-    requires { (at ≤ 65536) × (n ≤ 3072) }
+// The bits of a float, as they are stored.
+fn bits(x: f32) -> u32 {
+    vectors::narrow::pattern(std::num::f32_to_f64_with_nan(x))
+}
+
+// Numbers from n stored words, at the front of an array. No stored cage has over 1,024 faces or vertices, or 16,384 words.
+fn numbers_of<T: Copy, F: Fn(u32) -> T>(
+    b: &[u8],
+    at: usize,
+    n: usize,
+    nothing: T,
+    number: F,
+) -> [T; 3072]
+    requires room { (at ≤ 65536) × (n ≤ 3072) }
+    requires callable { F.IsAlwaysCallable number }
     ensures { length result ≡ 3072 }
 {
-    let mut out = [0u32; 3072];
-    let mut k: usize = 0;
-    while k < n {
-        out[k] = word(b, at + k);
-        k += 1;
+    let mut out = [nothing; 3072];
+    for k in 0..n {
+        out[k] = number(word(b, at + k));
     }
     out
 }
 
-fn floats_of(b: &[u8], at: usize, n: usize) -> [f32; 3072]
-    requires { (at ≤ 65536) × (n ≤ 3072) }
-    ensures { length result ≡ 3072 }
+// Whether the first n numbers are the stored words, by their bits.
+fn same<T: Copy, F: Fn(T) -> u32>(b: &[u8], at: usize, n: usize, s: &[T], bits_of: F) -> bool
+    requires room { (at ≤ 65536) × (n ≤ 3072) × (n ≤ length s.now) }
+    requires callable { F.IsAlwaysCallable bits_of }
 {
-    let mut out = [0.0f32; 3072];
-    let mut k: usize = 0;
-    while k < n {
-        out[k] = float(word(b, at + k));
-        k += 1;
-    }
-    out
-}
-
-fn same_words(b: &[u8], at: usize, n: usize, s: &[u32]) -> bool
-    requires { (at ≤ 65536) × (n ≤ length s.now) }
-{
-    let mut k: usize = 0;
-    while k < n {
-        if s[k] != word(b, at + k) {
+    for k in 0..n {
+        if bits_of(s[k]) != word(b, at + k) {
             return false;
         }
-        k += 1;
-    }
-    true
-}
-
-fn same_bits(b: &[u8], at: usize, n: usize, s: &[f32]) -> bool
-    requires { (at ≤ 65536) × (n ≤ length s.now) }
-{
-    let mut k: usize = 0;
-    while k < n {
-        let x = s[k];
-        if vectors::narrow::pattern(std::num::f32_to_f64_with_nan(x)) != word(b, at + k) {
-            return false;
-        }
-        k += 1;
     }
     true
 }
@@ -116,20 +94,20 @@ fn same_mesh(
     }
     let nf = 3 * faces as usize;
     let nv = 3 * vertices as usize;
-    if !same_words(b, at, nf, out) {
+    if !same(b, at, nf, out, |w| w) {
         return false;
     }
-    if !same_bits(b, at + nf, nv, positions) {
+    if !same(b, at + nf, nv, positions, bits) {
         return false;
     }
-    same_bits(b, at + nf + nv, nv, normals)
+    same(b, at + nf + nv, nv, normals, bits)
 }
 
 fn subdivided(b: &[u8], f: usize, v: usize) -> bool
     requires { (f ≤ 1024) × (v ≤ 1024) }
 {
-    let indices = words_of(b, 7, 3 * f);
-    let coords = floats_of(b, 7 + 3 * f, 3 * v);
+    let indices = numbers_of(b, 7, 3 * f, 0u32, |w| w);
+    let coords = numbers_of(b, 7 + 3 * f, 3 * v, 0.0f32, float);
     let mut positions = [0.0f32; 3072];
     let mut normals = [0.0f32; 3072];
     let mut out = [0u32; 3072];
@@ -148,14 +126,20 @@ fn subdivided(b: &[u8], f: usize, v: usize) -> bool
         &mut work,
     );
     match o {
-        Outcome::Refused(_) => false,
-        Outcome::Success(c) => {
-            let nf = c.faces;
-            let nv = c.vertices;
+        Err(_) => false,
+        Ok(c) => {
             if c.rims != word(b, 5) {
                 return false;
             }
-            same_mesh(b, 7 + 3 * f + 3 * v, nf, nv, &out, &positions, &normals)
+            same_mesh(
+                b,
+                7 + 3 * f + 3 * v,
+                c.faces,
+                c.vertices,
+                &out,
+                &positions,
+                &normals,
+            )
         }
     }
 }
@@ -196,12 +180,10 @@ fn count() -> u32 {
 
 fn replay(cages: u32) -> u32 {
     let mut same: u32 = 0;
-    let mut i: u32 = 0;
-    while i < cages {
+    for _ in 0..cages {
         if next() {
             same += 1;
         }
-        i += 1;
     }
     same
 }

@@ -1,10 +1,9 @@
 // Lent buffers: are they long enough, copying into them, clearing them, and which part holds the last level.
 #![tactic(auto)]
 
-ghost use Rattle.std.specs.Prelude.{◌≡◌, ◌+◌, ◌*◌, ◌≤◌, ◌%◌, ◌++◌, pos, length, take, eqb};
+ghost use Rattle.std.specs.Prelude.{◌≡◌, ◌+◌, ◌*◌, ◌≤◌, ◌%◌, ◌++◌, length, take, eqb, Err, Ok};
 ghost use Rattle.std.proofs.lemmas.List.Edits.{sets};
 ghost use Rattle.lists.specs.Lists.{pick, cleared};
-ghost use Rattle.rules.specs.Position.{f32 as single};
 ghost use Rattle.rules.specs.Refusals.{check, short_of};
 ghost use Rattle.rules.specs.Answers.{unless, whole_rooms, single_rooms};
 ghost use Rattle.cage.specs.Chains.{Faces, Below, Once};
@@ -14,32 +13,19 @@ use rules::{Counts, Outcome, Refusal};
 
 // 01: place 0 positions, 1 normals, 2 indices, 3 words, 4 work coordinates.
 fn short(place: u32) -> Outcome
-    ensures { result ≡ Outcome.Refused (record { number = 14; place = place }) }
+    ensures { result ≡ Err (record { number = 14; place = place }) }
 {
-    Outcome::Refused(Refusal {
+    Err(Refusal {
         number: 14,
         place: place,
     })
 }
 
+// A whole call is lent no normals, so that none can be missing.
 pub fn whole_room(c: Counts, positions: usize, out: usize, words: usize, work: usize) -> Outcome
-    ensures { result ≡ unless (check 14 (short_of (whole_rooms positions out words work c))) (Outcome.Success c) }
+    ensures { result ≡ unless (check 14 (short_of (whole_rooms positions out words work c))) (Ok c) }
 {
-    let v = c.vertices as usize;
-    let f = c.faces as usize;
-    if positions < 3 * v {
-        return short(0);
-    }
-    if out < 3 * f {
-        return short(2);
-    }
-    if words < 16 * f + 8 * v {
-        return short(3);
-    }
-    if work < 6 * v {
-        return short(4);
-    }
-    Outcome::Success(c)
+    single_room(c, positions, 3 * c.vertices as usize, out, words, work)
 }
 
 pub fn single_room(
@@ -50,7 +36,7 @@ pub fn single_room(
     words: usize,
     work: usize,
 ) -> Outcome
-    ensures { result ≡ unless (check 14 (short_of (single_rooms positions normals out words work c))) (Outcome.Success c) }
+    ensures { result ≡ unless (check 14 (short_of (single_rooms positions normals out words work c))) (Ok c) }
 {
     let v = c.vertices as usize;
     let f = c.faces as usize;
@@ -69,73 +55,28 @@ pub fn single_room(
     if work < 6 * v {
         return short(4);
     }
-    Outcome::Success(c)
+    Ok(c)
 }
 
-pub fn copy_words(w: &[u32], s: &mut [u32])
+pub fn copy<T: Copy>(w: &[T], s: &mut [T])
     requires { length w.now ≤ length s.old }
     ensures { s.new ≡ sets s.old 0 w.now }
 {
-    for k in 0..w.len() {
-        s[k] = w[k];
-    }
+    s[..w.len()].copy_from_slice(w);
 }
 
-pub fn copy_coords(w: &[i32], s: &mut [i32])
-    requires { length w.now ≤ length s.old }
-    ensures { s.new ≡ sets s.old 0 w.now }
-{
-    for k in 0..w.len() {
-        s[k] = w[k];
-    }
-}
-
-pub fn copy_floats(w: &[f32], s: &mut [f32])
-    requires { length w.now ≤ length s.old }
-    ensures { s.new ≡ sets s.old 0 w.now }
-{
-    for k in 0..w.len() {
-        s[k] = w[k];
-    }
-}
-
-pub fn zero_words(s: &mut [u32], n: usize)
+// The first n entries become z.
+pub fn clear<T: Copy>(s: &mut [T], n: usize, z: T)
     requires { n ≤ length s.old }
-    ensures { s.new ≡ cleared 0 n s.old }
+    ensures { s.new ≡ cleared z n s.old }
 {
     for i in 0..n {
-        s[i] = 0;
-    }
-}
-
-pub fn zero_coords(s: &mut [i32], n: usize)
-    requires { n ≤ length s.old }
-    ensures { s.new ≡ cleared (pos 0) n s.old }
-{
-    for k in 0..n {
-        s[k] = 0;
-    }
-}
-
-// +0, by its bits.
-pub fn zero_floats(s: &mut [f32], n: usize)
-    requires { n ≤ length s.old }
-    ensures { s.new ≡ cleared (single 0) n s.old }
-{
-    for k in 0..n {
-        s[k] = 0.0;
+        s[i] = z;
     }
 }
 
 // "the limit step reads the front of whichever part holds the last level, uncopied"
-pub fn whole_front<'a>(a: &'a [i32], b: &'a [i32], levels: u32, n: usize) -> &'a [i32]
-    requires { (n ≤ length a.now) × (n ≤ length b.now) }
-    ensures { result.now ≡ take n (pick (eqb (levels % 2) 0) a.now b.now) }
-{
-    if levels % 2 == 0 { &a[..n] } else { &b[..n] }
-}
-
-pub fn single_front<'a>(a: &'a [f32], b: &'a [f32], levels: u32, n: usize) -> &'a [f32]
+pub fn front<'a, T>(a: &'a [T], b: &'a [T], levels: u32, n: usize) -> &'a [T]
     requires { (n ≤ length a.now) × (n ≤ length b.now) }
     ensures { result.now ≡ take n (pick (eqb (levels % 2) 0) a.now b.now) }
 {
@@ -148,7 +89,7 @@ pub fn load_words(indices: &[u32], nv: usize, words: &mut [u32])
     requires room { 2 * length indices.now + nv ≤ length words.old }
     ensures { words.new ≡ sets words.old 0 (loaded nv indices.now) }
 {
-    copy_words(indices, words);
+    copy(indices, words);
     cage::link_words(indices, nv, words, indices.len());
 }
 

@@ -1,5 +1,6 @@
 -- Request 8: after the checks of the face list and of unused vertices every ring walk ends within the faces at its vertex. So refusal 11, "a ring walk passes more faces
 -- than the mesh has", was given to no cage: without it every answer is as before, and none is 11. No law that is cited here reads a check 11.
+use Rattle.std.specs.Prelude.{Ok}
 use mathlib.Core.Path.{◌≡◌, refl, sym, ap, ◌∙◌}
 use mathlib.Core.Logic.{◌≢◌}
 use Prim.Native.Nat.{ℕ, ◌+◌, ◌*◌, ◌/◌, ◌%◌, ◌<◌, ◌≤◌}
@@ -21,8 +22,7 @@ use Rattle.rules.specs.Sharp.{unlinked, told, sharp_last, sharp_refusal, sharp_o
 use Rattle.rules.specs.Sheets.{bad_sheet, sheet_levels, sheet_indices, sheet_coords, sheet_outcome, cut_rooms, most_input, cut_outcome}
 use Rattle.rules.specs.declared.Refusal.{Refusal}
 use Rattle.rules.specs.declared.Counts.{Counts}
-use Rattle.rules.specs.declared.Outcome.{Outcome}
-use Rattle.rules.specs.declared.Outcome.TheVariants.{Success}
+use Rattle.rules.specs.Outcome.{Outcome}
 use Rattle.lists.proofs.Places.{lowest-none, lowest-all, lowest-same}
 use Rattle.lists.proofs.Counting.{at_most}
 use Rattle.rules.proofs.Refine.{Good}
@@ -187,18 +187,18 @@ module _ (𝓝 : Numbers) (l : ℕ) (fs : List ℕ) (xs : List 𝓝.N) where
 
   -- and so is each outcome, which says what is left in every buffer
   pub outcome-as-before : (rooms : Counts → List Room) → (let c = counted (last 𝓝 l fs xs).mesh in
-      unless (refusal_before 𝓝 l fs xs or_else check 14 (short_of (rooms c))) (Success c) ≡ outcome 𝓝 rooms l fs xs)
+      unless (refusal_before 𝓝 l fs xs or_else check 14 (short_of (rooms c))) (Ok c) ≡ outcome 𝓝 rooms l fs xs)
   unfolding outcome
   outcome-as-before rooms =
       let c = counted (last 𝓝 l fs xs).mesh in
-      ap {B = Outcome} (λ (z : Option Refusal). unless (z or_else check 14 (short_of (rooms c))) (Success c)) as_before
+      ap {B = Outcome} (λ (z : Option Refusal). unless (z or_else check 14 (short_of (rooms c))) (Ok c)) as_before
 
   pub sharp-outcome-as-before : (rooms : Counts → List Room) (sharp : List ℕ) → (let c = counted (sharp_last 𝓝 l sharp fs xs).mesh in
-      unless (sharp_refusal_before 𝓝 l sharp fs xs or_else check 14 (short_of (rooms c))) (Success c) ≡ sharp_outcome 𝓝 rooms l sharp fs xs)
+      unless (sharp_refusal_before 𝓝 l sharp fs xs or_else check 14 (short_of (rooms c))) (Ok c) ≡ sharp_outcome 𝓝 rooms l sharp fs xs)
   unfolding sharp_outcome
   sharp-outcome-as-before rooms sharp =
       let c = counted (sharp_last 𝓝 l sharp fs xs).mesh in
-      ap {B = Outcome} (λ (z : Option Refusal). unless (z or_else check 14 (short_of (rooms c))) (Success c)) (sharp-as-before sharp)
+      ap {B = Outcome} (λ (z : Option Refusal). unless (z or_else check 14 (short_of (rooms c))) (Ok c)) (sharp-as-before sharp)
 
 -- ---- no answer is 11
 
@@ -291,7 +291,7 @@ module _ (𝓝 : Numbers) (l : ℕ) (fs : List ℕ) (xs : List 𝓝.N) where
   outcome-never-eleven rooms =
       let c = counted (last 𝓝 l fs xs).mesh in
       let short = short_of (rooms c) in
-      never-unless (refusal 𝓝 l fs xs or_else check 14 short) (Success c) (never-or (refusal 𝓝 l fs xs) (check 14 short) never-eleven (never-check 14 short tt)) (λ e. omega arith)
+      never-unless (refusal 𝓝 l fs xs or_else check 14 short) (Ok c) (never-or (refusal 𝓝 l fs xs) (check 14 short) never-eleven (never-check 14 short tt)) (λ e. omega arith)
 
   pub sharp-outcome-never-eleven : (rooms : Counts → List Room) (sharp : List ℕ) → get_or (answer (sharp_outcome 𝓝 rooms l sharp fs xs)) 0 0 ≢ 11
   unfolding sharp_outcome
@@ -299,7 +299,7 @@ module _ (𝓝 : Numbers) (l : ℕ) (fs : List ℕ) (xs : List 𝓝.N) where
       let c = counted (sharp_last 𝓝 l sharp fs xs).mesh in
       let short = short_of (rooms c) in
       let all = sharp_refusal 𝓝 l sharp fs xs in
-      never-unless (all or_else check 14 short) (Success c) (never-or all (check 14 short) (sharp-never-eleven sharp) (never-check 14 short tt)) (λ e. omega arith)
+      never-unless (all or_else check 14 short) (Ok c) (never-or all (check 14 short) (sharp-never-eleven sharp) (never-check 14 short tt)) (λ e. omega arith)
 
 pub sheet-never-eleven : (rooms : Counts → List Room) (b : List ℕ) → get_or (answer (sheet_outcome rooms b)) 0 0 ≢ 11
 unfolding sheet_outcome

@@ -1,5 +1,6 @@
 -- Request 14: a larger limit on valence. What was accepted is accepted with the same counts, and what was refused with another number than 12 is refused the same. Mesh, positions and
 -- normals are defined with no limit, so an accepted cage gets the same of them too.
+use Rattle.std.specs.Prelude.{Err, Ok}
 use mathlib.Core.Path.{◌≡◌, refl, sym, ap}
 use mathlib.Core.Logic.{◌≢◌}
 use Prim.Native.Nat.{ℕ, ◌/◌, ◌≤◌}
@@ -20,8 +21,7 @@ use Rattle.rules.specs.Answers.{counted, unless, outcome}
 use Rattle.rules.specs.Sharp.{unlinked, told, sharp_last, sharp_refusal, sharp_outcome}
 use Rattle.rules.specs.declared.Refusal.{Refusal}
 use Rattle.rules.specs.declared.Counts.{Counts}
-use Rattle.rules.specs.declared.Outcome.{Outcome}
-use Rattle.rules.specs.declared.Outcome.TheVariants.{Success, Refused}
+use Rattle.rules.specs.Outcome.{Outcome}
 use Rattle.lists.proofs.Places.{lowest-none, lowest-all}
 use Rattle.rules.proofs.Checks.{check-none}
 
@@ -60,14 +60,14 @@ module _ (a : ℕ) (𝓝 : Numbers) where
   outcome_to rooms l fs xs =
       let c = counted (last 𝓝 l fs xs).mesh in
       let short = check 14 (short_of (rooms c)) in
-      let done = Success c in
+      let done = Ok c in
       unless (refusal_to l fs xs or_else short) done
 
   unfoldable pub sharp_outcome_to : (Counts → List Room) → ℕ → List ℕ → List ℕ → List 𝓝.N → Outcome
   sharp_outcome_to rooms n l fs xs =
       let c = counted (sharp_last 𝓝 n l fs xs).mesh in
       let short = check 14 (short_of (rooms c)) in
-      let done = Success c in
+      let done = Ok c in
       unless (sharp_refusal_to n l fs xs or_else short) done
 
 -- ---- p none: q none; p another number than 12: q the same
@@ -92,8 +92,8 @@ before (some x) q b w = record {
 
 -- the same of outcomes
 pub record Kept (p q : Outcome) : Type 0 where
-  pub passes : (c : Counts) → p ≡ Success c → q ≡ Success c
-  pub others : (r : Refusal) → p ≡ Refused r → r.number ≢ 12 → q ≡ Refused r
+  pub passes : (c : Counts) → p ≡ Ok c → q ≡ Ok c
+  pub others : (r : Refusal) → p ≡ Err r → r.number ≢ 12 → q ≡ Err r
 
 kept : (p q : Option Refusal) (o : Outcome) → Looser p q → Kept (unless p o) (unless q o)
 kept none q o w = let z : q ≡ none = w.passes refl in rw z (record { passes = λ c e. e; others = λ r e d. e })
@@ -165,7 +165,7 @@ module _ (a : ℕ) (h : a ≤ most_valence) (𝓝 : Numbers) (l : ℕ) (fs : Lis
       let short = check 14 (short_of (rooms c)) in
       let p = refusal_to a 𝓝 l fs xs in
       let q = refusal 𝓝 l fs xs in
-      kept (p or_else short) (q or_else short) (Success c) (before p q short looser)
+      kept (p or_else short) (q or_else short) (Ok c) (before p q short looser)
 
   pub sharp-outcome-kept : (rooms : Counts → List Room) (sharp : List ℕ) → Kept (sharp_outcome_to a 𝓝 rooms l sharp fs xs) (sharp_outcome 𝓝 rooms l sharp fs xs)
   unfolding sharp_outcome_to sharp_outcome
@@ -174,7 +174,7 @@ module _ (a : ℕ) (h : a ≤ most_valence) (𝓝 : Numbers) (l : ℕ) (fs : Lis
       let short = check 14 (short_of (rooms c)) in
       let p = sharp_refusal_to a 𝓝 l sharp fs xs in
       let q = sharp_refusal 𝓝 l sharp fs xs in
-      kept (p or_else short) (q or_else short) (Success c) (before p q short (sharp-looser sharp))
+      kept (p or_else short) (q or_else short) (Ok c) (before p q short (sharp-looser sharp))
 
 -- at the limit itself they are the tables and outcomes of today
 module _ (𝓝 : Numbers) (l : ℕ) (fs : List ℕ) (xs : List 𝓝.N) where

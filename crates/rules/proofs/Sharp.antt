@@ -22,7 +22,7 @@ use Rattle.rules.specs.Refusals.{Room, refusal}
 use Rattle.rules.specs.Answers.{outcome, written}
 use Rattle.rules.specs.Calls.{Lent, Buffers, whole_room, SharpCall, WholeCall}
 use Rattle.rules.specs.declared.Counts.{Counts}
-use Rattle.rules.specs.declared.Outcome.{Outcome}
+use Rattle.rules.specs.Outcome.{Outcome}
 use Rattle.rules.specs.Sharp.{sharp, names, names_across, marks_of, twelve_marks, marks_by, finer_marks, creases, by_creases, creased, sharp_moved, sharp_edge, sharp_new, sharp_limits, SharpLevel, sharp_finer, sharp_levels, sharp_last, sharp_positions, sharp_exact, sharp_refusal, sharp_outcome}
 use Rattle.rules.proofs.Weights.{ring-adds-up, rim-adds-up}
 use Rattle.rules.proofs.Related.{Filled, round, fringe, lost, filled, Keeps, at, of_three, of-edge}

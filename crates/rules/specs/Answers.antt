@@ -1,5 +1,5 @@
 -- docs/RULES.md, Limits and Answers: what a call answers, and what it leaves in each lent buffer.
-use Rattle.std.specs.Prelude.{ℕ, ◌+◌, ◌*◌, ◌/◌, List, [], ◌∷◌, length}
+use Rattle.std.specs.Prelude.{ℕ, ◌+◌, ◌*◌, ◌/◌, List, [], ◌∷◌, length, Err, Ok}
 use Rattle.std.proofs.Math.Option.{Option, none, some}
 use Rattle.std.proofs.lemmas.List.Edits.{sets}
 use Rattle.lists.specs.Lists.{cleared}
@@ -9,13 +9,12 @@ use Rattle.rules.specs.Levels.{last}
 use Rattle.rules.specs.Refusals.{check, ◌or_else◌, refusal, Room, short_of}
 use Rattle.rules.specs.declared.Refusal.{Refusal}
 use Rattle.rules.specs.declared.Counts.{Counts}
-use Rattle.rules.specs.declared.Outcome.{Outcome}
-use Rattle.rules.specs.declared.Outcome.TheVariants.{Success, Refused}
+use Rattle.rules.specs.Outcome.{Outcome}
 
 -- the paper's five numbers: refusal number or 0, place, vertices, faces, rim sides
 abbrev pub answer : Outcome → List ℕ
-answer (Success c) = 0 ∷ 0 ∷ c.vertices ∷ c.faces ∷ c.rims ∷ []
-answer (Refused r) = r.number ∷ r.place ∷ 0 ∷ 0 ∷ 0 ∷ []
+answer (Ok c) = 0 ∷ 0 ∷ c.vertices ∷ c.faces ∷ c.rims ∷ []
+answer (Err r) = r.number ∷ r.place ∷ 0 ∷ 0 ∷ 0 ∷ []
 
 -- counted on the mesh itself
 abbrev pub counted : Mesh → Counts
@@ -50,21 +49,21 @@ single_rooms ps ns is ws cs c =
 
 abbrev pub unless : Option Refusal → Outcome → Outcome
 unless none o = o
-unless (some r) o = Refused r
+unless (some r) o = Err r
 
 unfoldable pub outcome : (𝓝 : Numbers) → (Counts → List Room) → ℕ → List ℕ → List 𝓝.N → Outcome
 outcome 𝓝 rooms l fs xs =
     let c = counted (last 𝓝 l fs xs).mesh in
     let short = check 14 (short_of (rooms c)) in
-    let done = Success c in
+    let done = Ok c in
     unless (refusal 𝓝 l fs xs or_else short) done
 
 -- ---- what a lent buffer holds afterwards: a refusal writes nothing, and nothing past the needed length changes
 
 abbrev pub written : {A : Type 0} → Outcome → List A → List A → List A
-written (Success c) front old = sets old 0 front
-written (Refused r) front old = old
+written (Ok c) front old = sets old 0 front
+written (Err r) front old = old
 
 abbrev pub zeroed : {A : Type 0} → Outcome → A → (Counts → ℕ) → List A → List A
-zeroed (Success c) z needed old = cleared z (needed c) old
-zeroed (Refused r) z needed old = old
+zeroed (Ok c) z needed old = cleared z (needed c) old
+zeroed (Err r) z needed old = old

@@ -10,7 +10,7 @@ use Rattle.rules.specs.Answers.{answer, outcome, whole_rooms, single_rooms, writ
 use Rattle.rules.specs.Sharp.{sharp_last, sharp_positions, sharp_outcome}
 use Rattle.rules.specs.Sheets.{sheet_levels, sheet_indices, sheet_coords, sheet_outcome}
 use Rattle.rules.specs.declared.Counts.{Counts}
-use Rattle.rules.specs.declared.Outcome.{Outcome}
+use Rattle.rules.specs.Outcome.{Outcome}
 
 -- ---- what stands behind a slice that is lent: as it is given; before the call and after it
 

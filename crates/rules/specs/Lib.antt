@@ -3,6 +3,7 @@ pub mod Position
 pub mod Levels
 pub mod Tangents
 pub mod Refusals
+pub mod Outcome
 pub mod Answers
 pub mod Sharp
 pub mod Sound

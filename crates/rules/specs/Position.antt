@@ -1,6 +1,6 @@
 -- docs/RULES.md, Positions: the weights, and the three kinds of number that a position is worked in. What differs between the engines is here, and nothing
 -- else. Every rule acts on x, y and z alike, so a rule is over numbers, not points.
-use Rattle.std.specs.Prelude.{ℕ, ◌-◌, ◌*◌, Bool, true, ◌&&◌, List, [], ◌∷◌, eqb, length, ℤ, pos, ◌+ℤ◌, ◌*ℤ◌, Float}
+use Rattle.std.specs.Prelude.{◌≡◌, refl, ℕ, ◌-◌, ◌*◌, Bool, true, ◌&&◌, List, [], ◌∷◌, eqb, length, ℤ, pos, ◌+ℤ◌, ◌*ℤ◌, Float}
 use Rattle.std.specs.Float.{binary32}
 use Rattle.std.specs.Float.Ieee.{add, sub, mul, div, of_int, le, neg}
 use Rattle.lists.specs.Lists.{pick}
@@ -45,6 +45,17 @@ pub record Numbers : Type 1 where
   pub halves : N → N → N
   pub eighths : N → N → N → N → N
 
+-- the same over a given type of number, which code that is generic in its number names
+pub record NumbersOn (N : Type 0) : Type 0 where
+  pub nought : N
+  pub allowed : N → Bool
+  pub blend : Rule → N → List N → N
+  pub halves : N → N → N
+  pub eighths : N → N → N → N → N
+
+abbrev pub numbers_of : {N : Type 0} → NumbersOn N → Numbers
+numbers_of {N} k = record { N = N; nought = k.nought; allowed = k.allowed; blend = k.blend; halves = k.halves; eighths = k.eighths }
+
 -- ---- whole micrometres: each new coordinate is the nearest whole number to its exact fraction
 
 abbrev pub sum : List ℤ → ℤ
@@ -65,6 +76,12 @@ whole_by round =
 
 abbrev pub whole : Numbers
 whole = whole_by nearest
+
+abbrev pub whole_on : NumbersOn ℤ
+whole_on = record { nought = whole.nought; allowed = whole.allowed; blend = whole.blend; halves = whole.halves; eighths = whole.eighths }
+
+pub whole-on : numbers_of whole_on ≡ whole
+whole-on = refl
 
 -- ---- fractions: "these same rules .. worked with no rounding at all"
 
@@ -129,3 +146,9 @@ single =
           (onto (div binary32 (f32 3) (f32 8)) (mul binary32 a (div binary32 (f32 3) (f32 8))) (b ∷ []))
           (c ∷ d ∷ []);
     }
+
+abbrev pub single_on : NumbersOn Float
+single_on = record { nought = single.nought; allowed = single.allowed; blend = single.blend; halves = single.halves; eighths = single.eighths }
+
+pub single-on : numbers_of single_on ≡ single
+single-on = refl

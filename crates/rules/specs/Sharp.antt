@@ -1,6 +1,6 @@
 -- docs/RULES.md, Sharp edges (request 6). A mark to a side, true on both faces of a sharp edge. The whole engine and the exact mesh take marks; the f32
 -- engine takes none and keeps the rules of specs/Levels.
-use Rattle.std.specs.Prelude.{◌≡◌, ◌≢◌, ℕ, zero, suc, ◌+◌, ◌*◌, ◌/◌, min, Bool, true, false, not, ◌||◌, List, [], ◌∷◌, ◌++◌, map, eqb, leb, length, get_or, ℤ}
+use Rattle.std.specs.Prelude.{◌≡◌, ◌≢◌, ℕ, zero, suc, ◌+◌, ◌*◌, ◌/◌, min, Bool, true, false, not, ◌||◌, List, [], ◌∷◌, ◌++◌, map, eqb, leb, length, get_or, ℤ, Ok}
 use Rattle.std.proofs.Math.Option.{Option, none, some}
 use Rattle.lists.specs.Lists.{pick, count, find, found, keep, gather}
 use Rattle.whole.specs.Fraction.{Fraction, of_whole}
@@ -11,8 +11,7 @@ use Rattle.rules.specs.Refusals.{check, ◌or_else◌, shape_refusal, range_refu
 use Rattle.rules.specs.Answers.{counted, unless}
 use Rattle.rules.specs.declared.Refusal.{Refusal}
 use Rattle.rules.specs.declared.Counts.{Counts}
-use Rattle.rules.specs.declared.Outcome.{Outcome}
-use Rattle.rules.specs.declared.Outcome.TheVariants.{Success}
+use Rattle.rules.specs.Outcome.{Outcome}
 
 -- ---- marks
 
@@ -132,7 +131,7 @@ unfoldable pub sharp_outcome : (𝓝 : Numbers) → (Counts → List Room) → �
 sharp_outcome 𝓝 rooms n l fs xs =
     let c = counted (sharp_last 𝓝 n l fs xs).mesh in
     let short = check 14 (short_of (rooms c)) in
-    let done = Success c in
+    let done = Ok c in
     unless (sharp_refusal 𝓝 n l fs xs or_else short) done
 
 -- ---- [5] "holds for vertices that are an end of no marked side"

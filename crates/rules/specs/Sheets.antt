@@ -6,7 +6,7 @@ use Rattle.rules.specs.Position.{whole}
 use Rattle.rules.specs.Refusals.{check, when, Room}
 use Rattle.rules.specs.Answers.{whole_rooms, unless, outcome}
 use Rattle.rules.specs.declared.Counts.{Counts}
-use Rattle.rules.specs.declared.Outcome.{Outcome}
+use Rattle.rules.specs.Outcome.{Outcome}
 
 -- the unsigned number at byte i, and the same read as a signed one
 abbrev pub word_at : List ℕ → ℕ → ℕ

@@ -1,16 +1,19 @@
 -- What a scan of a list that has come so far says.
+use Rattle.std.specs.Prelude.{Ok}
 use mathlib.Core.Path.{◌≡◌, refl, sym, ap, ap₂, ◌∙◌}
-use mathlib.Core.Logic.{◌≢◌}
 use Prim.Native.Nat.{ℕ, zero, suc, ◌+◌, ◌-◌, ◌*◌, ◌/◌, ◌≤◌, ◌<◌}
 use native.Mathlib.Omega.{arith}
-use mathlib.Core.Bool.{Bool, true, false, not}
+use mathlib.Core.Bool.{Bool, true, false, not, ◌||◌}
+use Rattle.std.specs.Prelude.{cond, count_by}
+use Rattle.std.specs.List.{list_any}
+use Rattle.std.proofs.lemmas.List.Sums.{sum_by-cons}
+use Rattle.cage.proofs.Chains.{eqb-sym}
 use mathlib.Core.List.{List, [], ◌∷◌, ◌++◌, append-nil, map}
-use mathlib.Core.Option.{Option, none}
+use mathlib.Core.Option.{Option, none, some}
 use lib.Dec.{T, T_not, eqb}
 use lib.ListN.{length, get_or, set, take, length-map}
 use lib.Seq.{sets, get_or-take, length-take-le, take-length}
-use borrow.Author.Tests.{eq-eqb, ne_eqb}
-use Rattle.lists.specs.Lists.{pick, bit, count, find, found, lowest, keep, tally, last_of, part}
+use Rattle.lists.specs.Lists.{pick, later, bit, count, find, found, lowest, keep, tally, last_of, part}
 use Rattle.lists.proofs.Places.{length-count, get_or-count, Look, nowhere, there, look, count_next, keep-next, tally-next, lowest-none}
 use Rattle.lists.proofs.Stores.{sets-map}
 use Rattle.lists.proofs.Counting.{tally-places}
@@ -20,7 +23,6 @@ use Rattle.rules.proofs.Checks.{check-none}
 use Rattle.rules.proofs.Sides.{length-sides, get_or-sides, length-links}
 use Rattle.faces.specs.Words.{coded}
 use Rattle.limits.specs.Verdicts.{verdict_of}
-use Rattle.limits.specs.declared.Check.TheVariants.{Pass}
 use Rattle.cage.specs.Chains.{Faces, Apart}
 use Rattle.limits.proofs.Search.{passed, failed, passes}
 use Rattle.cage.proofs.Rounds.{last-append}
@@ -45,6 +47,24 @@ module _ {A : Type 0} (p : A → Bool) (d : A) (l : List A) where
       go _ (nowhere n) = refl
       go _ (there j f) = absurd (T_not (p (get_or l j d)) (failed _ (b j f.below)) f.passes)
 
+-- as the library says it
+pub any_found : (u : ℕ) (l : List ℕ) → list_any (λ x. eqb x u) l ≡ found (find (eqb u) l)
+any_found u [] = refl
+any_found u (x ∷ l) = go (eqb u x) (eqb-sym x u) (find (eqb u) l) (any_found u l)
+  where
+    go : (b : Bool) → eqb x u ≡ b → (o : Option ℕ) → list_any (λ x. eqb x u) l ≡ found o → (eqb x u || list_any (λ x. eqb x u) l) ≡ found (pick b (some 0) (later o))
+    go true e o h = rw e
+    go false e none h = rw e h
+    go false e (some i) h = rw e h
+
+pub tally_counted : (p : ℕ → Bool) (l : List ℕ) → count_by p l ≡ tally p l
+tally_counted p [] = refl
+tally_counted p (x ∷ l) = sum_by-cons (λ y. cond (p y) 1 0) x l ∙ ap₂ (λ (a b : ℕ). a + b) (go (p x)) (tally_counted p l)
+  where
+    go : (b : Bool) → ◌≡◌ {A = ℕ} (cond b 1 0) (bit b)
+    go true = refl
+    go false = refl
+
 module _ (p : ℕ → Bool) (n : ℕ) where
   at : (j : ℕ) → j < n → get_or (count 0 n) j 0 ≡ j
   at j h = get_or-count 0 n j 0 h ∙ omega arith
@@ -59,13 +79,6 @@ module _ (p : ℕ → Bool) (n : ℕ) where
 
 abbrev off : Side
 off = record { from = 0; to = 0 }
-
-module _ (fs : List ℕ) (a b t o : ℕ) (q : o ≡ onward t) where
-  pub runs_so : a ≡ get_or fs t 0 → eqb b (get_or fs o 0) ≡ same (record { from = a; to = b }) (side fs t)
-  runs_so e = rw (q, eq-eqb _ _ e)
-
-pub runs-not : (fs : List ℕ) (a b t : ℕ) → a ≢ get_or fs t 0 → false ≡ same (record { from = a; to = b }) (side fs t)
-runs-not fs a b t e = rw (ne_eqb _ _ e)
 
 module _ (fs : List ℕ) (s : ℕ) (h : s < length fs) (a b : ℕ) (A : a ≡ corner fs s) (B : b ≡ corner fs (onward s)) where
   abbrev ss : List Side
@@ -108,9 +121,6 @@ module _ (fs : List ℕ) where
   part-all : part 0 (length fs) fs ≡ fs
   part-all = take-length fs
 
-  pub rim-word : (s w : ℕ) → w ≡ coded (get_or (links (part 0 (length fs) fs)) s none) → eqb w 0 ≡ not (found (get_or (links fs) s none))
-  rim-word s w e = ap (λ (x : ℕ). eqb x 0) (e ∙ ap (λ (l : List ℕ). coded (get_or (links l) s none)) part-all) ∙ zero_word (get_or (links fs) s none)
-
   pub rims-are : tally (λ s. not (found (get_or (links fs) s none))) (count 0 (length fs)) ≡ rims (links fs)
   rims-are =
       ap (λ (z : ℕ). tally (λ s. not (found (get_or (links fs) s none))) (count 0 z)) (sym (length-links fs))
@@ -122,17 +132,8 @@ module _ (fs : List ℕ) where
     thrice : 3 * (length fs / 3) ≡ length fs
     thrice = let t = w.thirds in omega arith
 
-    pub faces-all : part 0 (3 * (length fs / 3)) fs ≡ fs
+    faces-all : part 0 (3 * (length fs / 3)) fs ≡ fs
     faces-all = ap (λ (z : ℕ). part 0 z fs) thrice ∙ part-all
-
-    pub seen_all : Apart fs → Seen fs 0 (length fs / 3)
-    seen_all a = record {
-      listed = record { room = omega (arith, thrice); thirds = omega arith; small = omega (arith, thrice, w.few) };
-      apart = rw faces-all a;
-    }
-
-    pub corner-all : (s : ℕ) → s < length fs → s < 3 * (length fs / 3)
-    corner-all s h = rw thrice h
 
 -- ---- after check 9
 
@@ -159,7 +160,7 @@ twice-not : (b : Bool) → T (not (not b)) → T b
 twice-not true t = tt
 twice-not false t = absurd t
 
-pub started_of : (v : ℕ) (fs : List ℕ) → verdict_of (check 9 (lowest (λ u. not (found (find (eqb u) fs))) v)) ≡ Pass → Started v fs
+pub started_of : (v : ℕ) (fs : List ℕ) → verdict_of (check 9 (lowest (λ u. not (found (find (eqb u) fs))) v)) ≡ (Ok tt) → Started v fs
 started_of v fs e = record {
   each = λ u h.
       let b : 0 < length fs = some-there fs u (twice-not (found (find (eqb u) fs)) (lowest-none (λ u. not (found (find (eqb u) fs))) v (check-none 9 _ (passes _ e)) u h)) in

@@ -18,14 +18,7 @@ use looks::rings::turn_round;
 fn used(indices: &[u32], u: u32) -> bool
     ensures { result ≡ found (find (eqb u) indices.now) }
 {
-    let mut t = 0usize;
-    while t < indices.len() {
-        if u == indices[t] {
-            return true;
-        }
-        t = t + 1;
-    }
-    false
+    indices.contains(&u)
 }
 
 // 9
@@ -33,27 +26,23 @@ fn unused(indices: &[u32], v: usize) -> Check
     requires { v ≤ 4096 }
     ensures { result ≡ verdict_of (check 9 (lowest (λ u. not (found (find (eqb u) indices.now))) v)) }
 {
-    let mut u = 0usize;
-    while u < v {
+    for u in 0..v {
         if !used(indices, u as u32) {
             return no(9, u as u32);
         }
-        u = u + 1;
     }
-    Check::Pass
+    Ok(())
 }
 
 // Where vertex u starts: the last corner in the list that is it.
 pub fn start_of(indices: &[u32], u: u32) -> usize
     ensures { result ≡ last_corner indices.now u }
 {
-    let mut last = 0usize;
-    let mut t = 0usize;
-    while t < indices.len() {
-        if indices[t] == u {
+    let mut last = 0;
+    for (t, &corner) in indices.iter().enumerate() {
+        if corner == u {
             last = t;
         }
-        t = t + 1;
     }
     last
 }
@@ -63,15 +52,7 @@ fn count_of(indices: &[u32], u: u32) -> u16
     requires { Faces indices.now }
     ensures { result ≡ tally (eqb u) indices.now }
 {
-    let mut k = 0u16;
-    let mut t = 0usize;
-    while t < indices.len() {
-        if u == indices[t] {
-            k = k + 1;
-        }
-        t = t + 1;
-    }
-    k
+    indices.iter().filter(|&&corner| u == corner).count() as u16
 }
 
 // Round vertex u from its start corner.
@@ -87,20 +68,18 @@ fn turns(indices: &[u32], v: usize) -> Check
     requires { Faces indices.now × Apart indices.now × (v ≤ 4096) × Started v indices.now }
     ensures { result ≡ verdict_of (turn_refusal v indices.now) }
 {
-    let mut crowded = v;
-    let mut u = 0usize;
-    while u < v {
+    let mut crowded = None;
+    for u in 0..v {
         let t = turn_at(indices, u as u32);
         if short(t, count_of(indices, u as u32)) {
             return no(10, u as u32);
         }
-        crowded = first(crowded, v, wide(t), u);
-        u = u + 1;
+        crowded = first(crowded, wide(t), u);
     }
-    if crowded < v {
-        return no(12, crowded as u32);
+    match crowded {
+        Some(u) => no(12, u as u32),
+        None => Ok(()),
     }
-    Check::Pass
 }
 
 // 9 to 12.
@@ -108,8 +87,6 @@ pub fn fans(indices: &[u32], v: usize) -> Check
     requires { Faces indices.now × Apart indices.now × (v ≤ 4096) }
     ensures { result ≡ verdict_of (fan_refusal v indices.now) }
 {
-    match unused(indices, v) {
-        Check::No(r) => Check::No(r),
-        Check::Pass => turns(indices, v),
-    }
+    unused(indices, v)?;
+    turns(indices, v)
 }

@@ -2,7 +2,7 @@
 // are those of crate `limits`.
 #![tactic(auto)]
 
-ghost use Rattle.std.specs.Prelude.{◌≡◌, map, ◌+◌, ◌≤◌, length};
+ghost use Rattle.std.specs.Prelude.{◌≡◌, map, ◌+◌, ◌≤◌, length, Ok};
 ghost use Rattle.std.proofs.lemmas.List.Edits.{sets};
 ghost use Rattle.lists.specs.Lists.{count};
 ghost use Rattle.rules.specs.Mesh.{last_corner};
@@ -25,11 +25,9 @@ pub fn put_starts(indices: &[u32], v: usize, words: &mut [u32], at: usize)
     requires { Faces indices.now × (v ≤ 4096) × (at + v ≤ length words.old) }
     ensures { words.new ≡ sets words.old at (map (last_corner indices.now) (count 0 v)) }
 {
-    let mut u = 0usize;
-    while u < v {
+    for u in 0..v {
         let s = fans::start_of(indices, u as u32);
         words[at + u] = s as u32;
-        u = u + 1;
     }
 }
 
@@ -41,10 +39,8 @@ fn judge_size(levels: u32, indices: &[u32], v: usize) -> Outcome
     let f = (indices.len() / 3) as u32;
     let r = rims::count_rims(indices);
     let c = limits::size::grown(levels, v as u32, f, (3 * f + r) / 2, r);
-    match limits::size::size(c) {
-        Check::No(x) => Outcome::Refused(x),
-        Check::Pass => Outcome::Success(c),
-    }
+    limits::size::size(c)?;
+    Ok(c)
 }
 
 // 18 and 13.
@@ -52,20 +48,16 @@ fn judge_marks(levels: u32, indices: &[u32], v: usize, sharp: &[u32]) -> Outcome
     requires { (levels ≤ 7) × (v ≤ 4096) × Faces indices.now × Listed v indices.now }
     ensures { result ≡ judged (from_marks levels v sharp.now indices.now) levels v indices.now }
 {
-    match rims::marks(sharp, indices) {
-        Check::No(x) => Outcome::Refused(x),
-        Check::Pass => judge_size(levels, indices, v),
-    }
+    rims::marks(sharp, indices)?;
+    judge_size(levels, indices, v)
 }
 
 fn judge_fans(levels: u32, indices: &[u32], v: usize, sharp: &[u32]) -> Outcome
     requires { (levels ≤ 7) × (v ≤ 4096) × Faces indices.now × Listed v indices.now }
     ensures { result ≡ judged (from_nine levels v sharp.now indices.now) levels v indices.now }
 {
-    match fans::fans(indices, v) {
-        Check::No(x) => Outcome::Refused(x),
-        Check::Pass => judge_marks(levels, indices, v, sharp),
-    }
+    fans::fans(indices, v)?;
+    judge_marks(levels, indices, v, sharp)
 }
 
 fn judge_sets(levels: u32, indices: &[u32], v: usize, sharp: &[u32]) -> Outcome
@@ -73,20 +65,16 @@ fn judge_sets(levels: u32, indices: &[u32], v: usize, sharp: &[u32]) -> Outcome
     requires list { Below v indices.now × Apart indices.now × Once indices.now }
     ensures { result ≡ judged (from_eight levels v sharp.now indices.now) levels v indices.now }
 {
-    match list::doubled(indices) {
-        Check::No(x) => Outcome::Refused(x),
-        Check::Pass => judge_fans(levels, indices, v, sharp),
-    }
+    list::doubled(indices)?;
+    judge_fans(levels, indices, v, sharp)
 }
 
 fn judge_sides(levels: u32, indices: &[u32], v: usize, sharp: &[u32]) -> Outcome
     requires { (levels ≤ 7) × (v ≤ 4096) × Faces indices.now × Below v indices.now × Apart indices.now }
     ensures { result ≡ judged (from_seven levels v sharp.now indices.now) levels v indices.now }
 {
-    match list::reused(indices) {
-        Check::No(x) => Outcome::Refused(x),
-        Check::Pass => judge_sets(levels, indices, v, sharp),
-    }
+    list::reused(indices)?;
+    judge_sets(levels, indices, v, sharp)
 }
 
 // 5 to 13, with 18 between 12 and 13.
@@ -94,24 +82,16 @@ fn judge_faces(levels: u32, indices: &[u32], v: usize, sharp: &[u32]) -> Outcome
     requires { (levels ≤ 7) × (v ≤ 4096) × Faces indices.now }
     ensures { result ≡ judged (from_five levels v sharp.now indices.now) levels v indices.now }
 {
-    match limits::list::beyond(indices, v as u32) {
-        Check::No(x) => Outcome::Refused(x),
-        Check::Pass => match limits::list::flat(indices) {
-            Check::No(x) => Outcome::Refused(x),
-            Check::Pass => judge_sides(levels, indices, v, sharp),
-        },
-    }
+    limits::list::beyond(indices, v as u32)?;
+    limits::list::flat(indices)?;
+    judge_sides(levels, indices, v, sharp)
 }
 
 // The refusal of a cage, or what its last level counts: the promise of `cage::judge_sharp`, word for word.
 pub fn judge(levels: u32, indices: &[u32], coords: &[i32], sharp: &[u32]) -> Outcome
-    ensures { result ≡ unless (sharp_refusal whole levels sharp.now indices.now coords.now) (Outcome.Success (counted (sharp_last whole levels sharp.now indices.now coords.now).mesh)) }
+    ensures { result ≡ unless (sharp_refusal whole levels sharp.now indices.now coords.now) (Ok (counted (sharp_last whole levels sharp.now indices.now coords.now).mesh)) }
 {
-    match limits::shape(levels, indices.len(), coords.len()) {
-        Check::No(x) => Outcome::Refused(x),
-        Check::Pass => match limits::whole_range(coords) {
-            Check::No(x) => Outcome::Refused(x),
-            Check::Pass => judge_faces(levels, indices, coords.len() / 3, sharp),
-        },
-    }
+    limits::shape(levels, indices.len(), coords.len())?;
+    limits::range(coords)?;
+    judge_faces(levels, indices, coords.len() / 3, sharp)
 }

@@ -14,11 +14,7 @@ fn runs(indices: &[u32], a: u32, b: u32, t: usize) -> bool
     requires { Faces indices.now × (t < length indices.now) }
     ensures { result ≡ same (record { from = a; to = b }) (side indices.now t) }
 {
-    if a == indices[t] {
-        b == indices[onward(t)]
-    } else {
-        false
-    }
+    a == indices[t] && b == indices[onward(t)]
 }
 
 // Whether an earlier side runs as side s does.
@@ -28,12 +24,10 @@ fn used_before(indices: &[u32], s: usize) -> bool
 {
     let a = indices[s];
     let b = indices[onward(s)];
-    let mut t = 0usize;
-    while t < s {
+    for t in 0..s {
         if runs(indices, a, b, t) {
             return true;
         }
-        t = t + 1;
     }
     false
 }
@@ -43,27 +37,19 @@ pub fn reused(indices: &[u32]) -> Check
     requires { Faces indices.now }
     ensures { result ≡ verdict_of (check 7 (lowest (used_before (sides indices.now)) (3 * (length indices.now / 3)))) }
 {
-    let mut s = 0usize;
-    while s < indices.len() {
+    for s in 0..indices.len() {
         if used_before(indices, s) {
             return no(7, s as u32);
         }
-        s = s + 1;
     }
-    Check::Pass
+    Ok(())
 }
 
 // Whether x is one of three.
 fn has(a: u32, b: u32, c: u32, x: u32) -> bool
     ensures { result ≡ has_of a b c x }
 {
-    if x == a {
-        return true;
-    }
-    if x == b {
-        return true;
-    }
-    x == c
+    x == a || x == b || x == c
 }
 
 fn same_set(indices: &[u32], f: usize, g: usize) -> bool
@@ -73,13 +59,9 @@ fn same_set(indices: &[u32], f: usize, g: usize) -> bool
     let a = indices[3 * f];
     let b = indices[3 * f + 1];
     let c = indices[3 * f + 2];
-    if has(a, b, c, indices[3 * g]) {
-        if has(a, b, c, indices[3 * g + 1]) {
-            return has(a, b, c, indices[3 * g + 2]);
-        }
-        return false;
-    }
-    false
+    has(a, b, c, indices[3 * g])
+        && has(a, b, c, indices[3 * g + 1])
+        && has(a, b, c, indices[3 * g + 2])
 }
 
 // Whether an earlier face has the corner set of face f.
@@ -87,12 +69,10 @@ fn set_before(indices: &[u32], f: usize) -> bool
     requires { Faces indices.now × (3 * f + 2 < length indices.now) }
     ensures { result ≡ found (lowest (same_set indices.now f) f) }
 {
-    let mut g = 0usize;
-    while g < f {
+    for g in 0..f {
         if same_set(indices, f, g) {
             return true;
         }
-        g = g + 1;
     }
     false
 }
@@ -102,12 +82,10 @@ pub fn doubled(indices: &[u32]) -> Check
     requires { Faces indices.now }
     ensures { result ≡ verdict_of (check 8 (lowest (λ f. found (lowest (same_set indices.now f) f)) (length indices.now / 3))) }
 {
-    let mut f = 0usize;
-    while f < indices.len() / 3 {
+    for f in 0..indices.len() / 3 {
         if set_before(indices, f) {
             return no(8, f as u32);
         }
-        f = f + 1;
     }
-    Check::Pass
+    Ok(())
 }

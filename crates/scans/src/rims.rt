@@ -26,10 +26,7 @@ fn loose(indices: &[u32], s: u32) -> bool
     ensures { result ≡ unlinked (links indices.now) s }
 {
     let k = s as usize;
-    if k >= indices.len() {
-        return true;
-    }
-    on_rim(indices, k)
+    k >= indices.len() || on_rim(indices, k)
 }
 
 // 18
@@ -37,14 +34,12 @@ pub fn marks(sharp: &[u32], indices: &[u32]) -> Check
     requires { Faces indices.now }
     ensures { result ≡ verdict_of (check 18 (told (find (unlinked (links indices.now)) sharp.now))) }
 {
-    let mut i = 0usize;
-    while i < sharp.len() {
-        if loose(indices, sharp[i]) {
+    for (i, &s) in sharp.iter().enumerate() {
+        if loose(indices, s) {
             return no(18, place(i));
         }
-        i = i + 1;
     }
-    Check::Pass
+    Ok(())
 }
 
 // How many sides are on the rim.
@@ -52,13 +47,11 @@ pub fn count_rims(indices: &[u32]) -> u32
     requires { Faces indices.now }
     ensures { result ≡ rims (links indices.now) }
 {
-    let mut k = 0u32;
-    let mut s = 0usize;
-    while s < indices.len() {
+    let mut k = 0;
+    for s in 0..indices.len() {
         if on_rim(indices, s) {
             k = k + 1;
         }
-        s = s + 1;
     }
     k
 }

@@ -19,8 +19,8 @@ ghost use Rattle.sharp.specs.Marked.{SharpHeld, Listed, unmarked, MarksLoaded};
 
 use faces::sides::VertNo;
 use turns::MOST_VALENCE;
-use weights::Stage;
 use weights::micrometres::Whole3;
+use weights::{Stage, Weighed};
 
 // The words of n faces, from `at` on, with no mark.
 pub fn no_marks(words: &mut [u32], at: usize, n: usize)
@@ -71,20 +71,18 @@ fn refine(
     ensures held { SharpHeld (sharp_last whole levels sharp.now indices.now coords.now) levels half third words.new work.new }
     ensures kept { Kept (2 * half) words.new words.old × Kept (2 * third) work.new work.old }
 {
-    let mut i = 0;
     let mut nf = indices.len() / 3;
     let mut nv = coords.len() / 3;
-    while i < levels {
+    for i in 0..levels {
         let at = room::start(i, half);
         let to = room::start(i + 1, half);
         let from = room::start(i, third);
         let next = room::start(i + 1, third);
         let marks = at + (half - nf);
         creases::points::sharp_points(&words[..], at, marks, nf, nv, work, from, next);
-        nv = nv + levels::refine_words(words, at, to, nf, nv);
+        nv += levels::refine_words(words, at, to, nf, nv);
         marks::refine_marks(words, marks, to + (half - 4 * nf), nf);
         nf = 4 * nf;
-        i = i + 1;
     }
 }
 
@@ -123,11 +121,9 @@ fn limit(words: &[u32], at: usize, marks: usize, nf: usize, nv: usize, xs: &[i32
     requires room { 3 * nv ≤ length out.old }
     ensures { out.new ≡ sets out.old 0 (sharp_limits whole (mesh_in words.now at nf nv) (links (part at (3 * nf) words.now)) (marks_in words.now marks nf) xs.now) }
 {
-    let mut u = 0;
-    while u < nv {
+    for u in 0..nv {
         let p = limit_at(words, at, marks, nf, nv, xs, u);
-        p.put(out, 3 * u);
-        u = u + 1;
+        i32::put(p, out, 3 * u);
     }
 }
 
@@ -152,9 +148,9 @@ fn finish(
 {
     let half = 8 * nf + 4 * nv;
     let at = room::start(levels, half);
-    room::copy_words(&words[at..at + 3 * nf], out);
+    room::copy(&words[at..at + 3 * nf], out);
     let third = 3 * nv;
-    let xs = room::whole_front(&work[0..third], &work[third..2 * third], levels, third);
+    let xs = room::front(&work[0..third], &work[third..2 * third], levels, third);
     limit(words, at, at + (half - nf), nf, nv, xs, positions);
 }
 
@@ -182,7 +178,7 @@ pub fn run(
     let third = 3 * nv;
     room::load_words(indices, coords.len() / 3, words);
     load_marks(levels, indices, coords, sharp, nf, nv, words);
-    room::copy_coords(coords, work);
+    room::copy(coords, work);
     refine(levels, indices, coords, sharp, half, third, words, work);
     finish(
         levels,
@@ -196,6 +192,6 @@ pub fn run(
         positions,
         out,
     );
-    room::zero_words(words, 2 * half);
-    room::zero_coords(work, 2 * third);
+    room::clear(words, 2 * half, 0);
+    room::clear(work, 2 * third, 0);
 }

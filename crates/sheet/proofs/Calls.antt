@@ -1,4 +1,5 @@
 -- What a success of the call on a sheet says: nothing refused, the counts are those of the last level, and its lists are that long.
+use Rattle.std.specs.Prelude.{Ok}
 use Prim.Native.Nat.{ℕ, ◌*◌, ◌/◌}
 use mathlib.Core.Path.{◌≡◌, refl, sym, ap, ◌∙◌}
 use mathlib.Core.List.{List}
@@ -13,15 +14,14 @@ use Rattle.rules.specs.Answers.{unless, counted}
 use Rattle.rules.specs.Sheets.{bad_sheet, sheet_levels, sheet_indices, sheet_coords, sheet_outcome}
 use Rattle.rules.specs.declared.Counts.{Counts}
 use Rattle.rules.specs.declared.Refusal.{Refusal}
-use Rattle.rules.specs.declared.Outcome.{Outcome}
-use Rattle.rules.specs.declared.Outcome.TheVariants.{Success}
+use Rattle.rules.specs.Outcome.{Outcome}
 use Rattle.rules.proofs.Cage.{accepted}
 use Rattle.rules.proofs.Levels.{sound-level, mesh-levels}
 use Rattle.rules.proofs.Spokes.{length-positions}
 use Rattle.rules.specs.Calls.{sheet_last}
 use Rattle.loopsubdiv.proofs.Outcomes.{done as answered}
 
-unless-none : (o : Option Refusal) (x : Outcome) (c : Counts) → unless o x ≡ Success c → (o ≡ none) × (x ≡ Success c)
+unless-none : (o : Option Refusal) (x : Outcome) (c : Counts) → unless o x ≡ Ok c → (o ≡ none) × (x ≡ Ok c)
 unless-none none x c e = (refl, e)
 unless-none (some r) x c e = absurd (let z : ◌≡◌ {A = ℕ} 0 1 = cc in omega arith)
 
@@ -31,7 +31,7 @@ pub record Done (rooms : Counts → List Room) (b : List ℕ) (c : Counts) : Typ
   pub positions : length (positions_of whole (sheet_last b)) ≡ 3 * c.vertices
   pub faces : length (sheet_last b).mesh.faces ≡ 3 * c.faces
 
-pub done : (rooms : Counts → List Room) (b : List ℕ) (c : Counts) → sheet_outcome rooms b ≡ Success c → Done rooms b c
+pub done : (rooms : Counts → List Room) (b : List ℕ) (c : Counts) → sheet_outcome rooms b ≡ Ok c → Done rooms b c
 unfolding sheet_outcome
 done rooms b c e =
     let fs = sheet_indices b in

@@ -3,22 +3,64 @@
 
 ghost use Rattle.std.specs.Prelude.{◌≡◌, ◌≤◌};
 ghost use Rattle.reader.specs.Reading.{sheet_of};
-ghost use Rattle.rules.specs.Calls.{given, buffers, WholeCall, SheetCall};
+ghost use Rattle.rules.specs.Calls.{given, buffers, SharpCall, WholeCall, SheetCall};
 
-use limits::Check;
-use reader::{Sheet, coords_from, face_block, read_sheet, vertex_block, words_from};
+use reader::{Sheet, face_block, numbers_from, read_sheet, vertex_block};
 use rules::{Outcome, Refusal};
 
 // The engine that runs: the one that keeps links between faces, or the plain one, which looks through the face list. Both promise the same.
-#[derive(Clone, Copy)]
-pub enum Engine {
-    Linked,
-    Plain,
+pub trait Engine {
+    fn loop_subdivide(
+        levels: u32,
+        indices: &[u32],
+        coords: &[i32],
+        sharp: &[u32],
+        positions: &mut [i32],
+        out: &mut [u32],
+        words: &mut [u32],
+        work: &mut [i32],
+    ) -> Outcome
+        ensures { SharpCall levels (given sharp) (given indices) (given coords) (buffers positions out words work) result };
+}
+
+pub struct Linked;
+
+pub struct Plain;
+
+impl Engine for Linked {
+    fn loop_subdivide(
+        levels: u32,
+        indices: &[u32],
+        coords: &[i32],
+        sharp: &[u32],
+        positions: &mut [i32],
+        out: &mut [u32],
+        words: &mut [u32],
+        work: &mut [i32],
+    ) -> Outcome {
+        loopsubdiv::loop_subdivide_whole(
+            levels, indices, coords, sharp, positions, out, words, work,
+        )
+    }
+}
+
+impl Engine for Plain {
+    fn loop_subdivide(
+        levels: u32,
+        indices: &[u32],
+        coords: &[i32],
+        sharp: &[u32],
+        positions: &mut [i32],
+        out: &mut [u32],
+        words: &mut [u32],
+        work: &mut [i32],
+    ) -> Outcome {
+        plain::loop_subdivide_plain(levels, indices, coords, sharp, positions, out, words, work)
+    }
 }
 
 // The whole engine with no sharp edges: a sheet has no marks.
-fn smooth(
-    engine: Engine,
+fn smooth<E: Engine>(
     levels: u32,
     indices: &[u32],
     coords: &[i32],
@@ -30,40 +72,30 @@ fn smooth(
     ensures { WholeCall levels (given indices) (given coords) (buffers positions out words work) result }
 {
     let none = &indices[..0];
-    match engine {
-        Engine::Linked => loopsubdiv::loop_subdivide_whole(
-            levels, indices, coords, none, positions, out, words, work,
-        ),
-        Engine::Plain => plain::loop_subdivide_plain(
-            levels, indices, coords, none, positions, out, words, work,
-        ),
-    }
+    E::loop_subdivide(levels, indices, coords, none, positions, out, words, work)
 }
 
-// The whole engine on the lists of a sheet, which checks 1 and 3 keep within local arrays.
-fn subdivide_lists(
-    engine: Engine,
+// The whole engine on the lists of a sheet, which checks 1 and 3 keep within local arrays. They stand in a frame of their own, which a refusal does not make.
+#[inline(never)]
+fn subdivide_lists<E: Engine>(
     bytes: &[u8],
-    vertices: usize,
-    faces: usize,
-    levels: u32,
+    sheet: Sheet,
     positions: &mut [i32],
     out: &mut [u32],
     words: &mut [u32],
     work: &mut [i32],
 ) -> Outcome
-    requires { (vertices ≤ 4096) × ((faces ≤ 4096) × (sheet_of bytes.now ≡ Sheet.Is vertices faces levels)) }
+    requires { (sheet.vertices ≤ 4096) × ((sheet.faces ≤ 4096) × (sheet_of bytes.now ≡ Some sheet)) }
     ensures { SheetCall (given bytes) (buffers positions out words work) result }
 {
-    let nc = 3 * vertices;
+    let nc = 3 * sheet.vertices as usize;
     let mut coords = [0i32; 12288];
-    coords_from(vertex_block(bytes), nc, &mut coords);
-    let nw = 3 * faces;
+    numbers_from(vertex_block(bytes), nc, &mut coords);
+    let nw = 3 * sheet.faces as usize;
     let mut indices = [0u32; 12288];
-    words_from(face_block(bytes), nw, &mut indices);
-    smooth(
-        engine,
-        levels,
+    numbers_from(face_block(bytes), nw, &mut indices);
+    smooth::<E>(
+        sheet.levels,
         &indices[..nw],
         &coords[..nc],
         positions,
@@ -74,8 +106,7 @@ fn subdivide_lists(
 }
 
 // Either engine on a sheet of any length. 15, 1 and 3 need the trailer alone; 2 cannot occur.
-pub fn subdivide_by(
-    engine: Engine,
+pub fn subdivide_by<E: Engine>(
     bytes: &[u8],
     positions: &mut [i32],
     out: &mut [u32],
@@ -84,26 +115,16 @@ pub fn subdivide_by(
 ) -> Outcome
     ensures { SheetCall (given bytes) (buffers positions out words work) result }
 {
-    match read_sheet(bytes) {
-        Sheet::Refused => Outcome::Refused(Refusal {
+    let Some(sheet) = read_sheet(bytes) else {
+        return Err(Refusal {
             number: 15,
             place: 0,
-        }),
-        Sheet::Is {
-            vertices,
-            faces,
-            levels,
-        } => {
-            let nv = vertices as usize;
-            let nf = faces as usize;
-            match limits::shape(levels, 3 * nf, 3 * nv) {
-                Check::No(r) => Outcome::Refused(r),
-                Check::Pass => subdivide_lists(
-                    engine, bytes, nv, nf, levels, positions, out, words, work,
-                ),
-            }
-        }
-    }
+        });
+    };
+    let nv = sheet.vertices as usize;
+    let nf = sheet.faces as usize;
+    limits::shape(sheet.levels, 3 * nf, 3 * nv)?;
+    subdivide_lists::<E>(bytes, sheet, positions, out, words, work)
 }
 
 // The linked engine on a sheet.
@@ -116,7 +137,7 @@ pub fn subdivide_sheet(
 ) -> Outcome
     ensures { SheetCall (given bytes) (buffers positions out words work) result }
 {
-    subdivide_by(Engine::Linked, bytes, positions, out, words, work)
+    subdivide_by::<Linked>(bytes, positions, out, words, work)
 }
 
 // The plain engine on a sheet.
@@ -129,5 +150,5 @@ pub fn subdivide_sheet_plain(
 ) -> Outcome
     ensures { SheetCall (given bytes) (buffers positions out words work) result }
 {
-    subdivide_by(Engine::Plain, bytes, positions, out, words, work)
+    subdivide_by::<Plain>(bytes, positions, out, words, work)
 }

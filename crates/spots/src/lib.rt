@@ -1,10 +1,13 @@
 // A line of OBJ text, byte after byte: where each leads, from the spot at which it stands.
 #![tactic(auto)]
 
-ghost use Rattle.std.specs.Prelude.{◌≡◌, ◌+◌, ◌-◌, ◌*◌};
+ghost use Rattle.std.specs.Prelude.{◌≡◌, ◌+◌, ◌-◌, ◌*◌, true, false, eqb, Some, None};
 ghost use Rattle.lists.specs.Lists.{pick};
-ghost use Rattle.spots.specs.Spots.{grows};
+ghost use Rattle.spots.specs.Spots.{grows, after_number};
 ghost use Rattle.spots.specs.Spots.{turn as turn_of, ends as end_of, is_stuck as is_stuck_at, is_line as is_line_at};
+
+// The farthest that a coordinate lies from zero, as in crate `whole`.
+const REACH: u32 = 1_000_000_000;
 
 // Where in a line the next byte stands.
 #[derive(Clone, Copy)]
@@ -31,6 +34,7 @@ pub enum Spot {
 }
 
 // After i coordinates and j corners, as everywhere here.
+#[tactic(auto, unfolding(crate::specs::Spots::turn))]
 fn line(i: u32, j: u32, c: u32) -> Spot
     ensures { result ≡ turn_of i j Spot.Line c }
 {
@@ -55,6 +59,7 @@ fn line(i: u32, j: u32, c: u32) -> Spot
     Spot::Stuck
 }
 
+#[tactic(auto, unfolding(crate::specs::Spots::turn))]
 fn after_v(c: u32) -> Spot
     ensures { result ≡ turn_of 0 0 Spot.AfterV c }
 {
@@ -64,6 +69,7 @@ fn after_v(c: u32) -> Spot
     Spot::Stuck
 }
 
+#[tactic(auto, unfolding(crate::specs::Spots::turn))]
 fn coord(c: u32) -> Spot
     ensures { result ≡ turn_of 0 0 Spot.Coord c }
 {
@@ -79,6 +85,7 @@ fn coord(c: u32) -> Spot
     Spot::Above(c - 48)
 }
 
+#[tactic(auto, unfolding(crate::specs::Spots::turn))]
 fn minus(c: u32) -> Spot
     ensures { result ≡ turn_of 0 0 Spot.Minus c }
 {
@@ -91,6 +98,7 @@ fn minus(c: u32) -> Spot
     Spot::Under(c - 48)
 }
 
+#[tactic(auto, unfolding(crate::specs::Spots::turn))]
 fn after_f(c: u32) -> Spot
     ensures { result ≡ turn_of 0 0 Spot.AfterF c }
 {
@@ -100,6 +108,7 @@ fn after_f(c: u32) -> Spot
     Spot::Stuck
 }
 
+#[tactic(auto, unfolding(crate::specs::Spots::turn))]
 fn corner(i: u32, c: u32) -> Spot
     ensures { result ≡ turn_of i 0 Spot.Corner c }
 {
@@ -125,72 +134,43 @@ fn ends(i: u32) -> u32
     32
 }
 
-// n with the digit c after it, or 0 where none may follow: no digit after a zero, none past the most.
-pub fn grown(n: u32, c: u32, most: u32) -> u32
-    ensures { result ≡ pick (grows n c most) (10 * n + (c - 48)) 0 }
+// n with the digit c after it, where one may follow: none after a zero, none past the most.
+pub fn grown(n: u32, c: u32, most: u32) -> Option<u32>
+    ensures { result ≡ pick (grows n c most) (Some (10 * n + (c - 48))) None }
 {
     if c < 48 {
-        return 0;
+        return None;
     }
     if 57 < c {
-        return 0;
+        return None;
     }
     if n == 0 {
-        return 0;
+        return None;
     }
     let m = 10 * (n as u64) + ((c - 48) as u64);
     if (most as u64) < m {
-        return 0;
+        return None;
     }
-    m as u32
+    Some(m as u32)
 }
 
-fn above(i: u32, n: u32, c: u32) -> Spot
-    ensures { result ≡ turn_of i 0 (Spot.Above n) c }
+// Number i of its kind, n so far: c ends it, and a line that is not at its end goes on with `more`; or c is one more of its digits.
+fn onward<F: Fn(u32) -> Spot>(i: u32, n: u32, c: u32, most: u32, more: Spot, so_far: F) -> Spot
+    requires { F.IsAlwaysCallable so_far }
+    ensures ended { eqb c (end_of i) ≡ true → result ≡ after_number i more }
+    ensures goes_on { eqb c (end_of i) ≡ false → grows n c most ≡ true → F.post so_far (10 * n + (c - 48)) result }
+    ensures stuck { eqb c (end_of i) ≡ false → grows n c most ≡ false → result ≡ Spot.Stuck }
 {
     if c == ends(i) {
         if i % 3 == 2 {
             return Spot::Line;
         }
-        return Spot::Coord;
+        return more;
     }
-    let m = grown(n, c, 1000000000);
-    if m == 0 {
-        return Spot::Stuck;
+    match grown(n, c, most) {
+        Some(m) => so_far(m),
+        None => Spot::Stuck,
     }
-    Spot::Above(m)
-}
-
-fn below(i: u32, n: u32, c: u32) -> Spot
-    ensures { result ≡ turn_of i 0 (Spot.Under n) c }
-{
-    if c == ends(i) {
-        if i % 3 == 2 {
-            return Spot::Line;
-        }
-        return Spot::Coord;
-    }
-    let m = grown(n, c, 1000000000);
-    if m == 0 {
-        return Spot::Stuck;
-    }
-    Spot::Under(m)
-}
-
-fn number(i: u32, j: u32, n: u32, c: u32) -> Spot
-    ensures { result ≡ turn_of i j (Spot.Number n) c }
-{
-    if c == ends(j) {
-        if j % 3 == 2 {
-            return Spot::Line;
-        }
-        return Spot::Corner;
-    }
-    let m = grown(n, c, i / 3);
-    if m == 0 {
-        return Spot::Stuck;
-    }
-    Spot::Number(m)
 }
 
 pub fn turn(i: u32, j: u32, spot: Spot, c: u32) -> Spot
@@ -201,11 +181,11 @@ pub fn turn(i: u32, j: u32, spot: Spot, c: u32) -> Spot
         Spot::AfterV => after_v(c),
         Spot::Coord => coord(c),
         Spot::Minus => minus(c),
-        Spot::Above(n) => above(i, n, c),
-        Spot::Under(n) => below(i, n, c),
+        Spot::Above(n) => onward(i, n, c, REACH, Spot::Coord, |m| Spot::Above(m)),
+        Spot::Under(n) => onward(i, n, c, REACH, Spot::Coord, |m| Spot::Under(m)),
         Spot::AfterF => after_f(c),
         Spot::Corner => corner(i, c),
-        Spot::Number(n) => number(i, j, n, c),
+        Spot::Number(n) => onward(j, n, c, i / 3, Spot::Corner, |m| Spot::Number(m)),
         Spot::Stuck => Spot::Stuck,
     }
 }
@@ -213,33 +193,11 @@ pub fn turn(i: u32, j: u32, spot: Spot, c: u32) -> Spot
 pub fn is_stuck(spot: Spot) -> bool
     ensures { result ≡ is_stuck_at spot }
 {
-    match spot {
-        Spot::Line => false,
-        Spot::AfterV => false,
-        Spot::Coord => false,
-        Spot::Minus => false,
-        Spot::Above(_) => false,
-        Spot::Under(_) => false,
-        Spot::AfterF => false,
-        Spot::Corner => false,
-        Spot::Number(_) => false,
-        Spot::Stuck => true,
-    }
+    matches!(spot, Spot::Stuck)
 }
 
 pub fn is_line(spot: Spot) -> bool
     ensures { result ≡ is_line_at spot }
 {
-    match spot {
-        Spot::Line => true,
-        Spot::AfterV => false,
-        Spot::Coord => false,
-        Spot::Minus => false,
-        Spot::Above(_) => false,
-        Spot::Under(_) => false,
-        Spot::AfterF => false,
-        Spot::Corner => false,
-        Spot::Number(_) => false,
-        Spot::Stuck => false,
-    }
+    matches!(spot, Spot::Line)
 }

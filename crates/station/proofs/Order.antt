@@ -1,4 +1,5 @@
 -- The refusals of the call, in their order, and what an accepted cage gives.
+use Rattle.std.specs.Prelude.{Err, Ok}
 use mathlib.Core.Path.{◌≡◌, refl, sym, ap, ◌∙◌}
 use mathlib.Core.Logic.{◌≢◌}
 use mathlib.Core.Bool.{Bool, true, false, ◌||◌}
@@ -21,8 +22,7 @@ use Rattle.rules.specs.Answers.{counted, unless, outcome, written, zeroed, work_
 use Rattle.rules.specs.Calls.{Lent, Buffers, whole_room, WholeCall}
 use Rattle.rules.specs.declared.Refusal.{Refusal}
 use Rattle.rules.specs.declared.Counts.{Counts}
-use Rattle.rules.specs.declared.Outcome.{Outcome}
-use Rattle.rules.specs.declared.Outcome.TheVariants.{Success, Refused}
+use Rattle.rules.specs.Outcome.{Outcome}
 use Rattle.rules.proofs.Cage.{accepted}
 use Rattle.rules.proofs.Related.{same-mesh}
 use Rattle.rules.proofs.Spokes.{length-limits}
@@ -33,15 +33,15 @@ use Rattle.station.specs.declared.Verdict.{Verdict}
 use Rattle.station.specs.declared.Verdict.TheVariants as verdicts
 
 module _ (rooms : Counts → List Room) (t l : ℕ) (fs : List ℕ) (xs : List ℤ) where
-  pub station-1 : 7 < l → station_outcome rooms t l fs xs ≡ Refused (record { number = 1; place = 0 })
+  pub station-1 : 7 < l → station_outcome rooms t l fs xs ≡ Err (record { number = 1; place = 0 })
   unfolding station_outcome
   station-1 h = rw (lt-ltb 7 l h) refl
 
-  pub station-tolerance : l ≤ 7 → 1000 < t → station_outcome rooms t l fs xs ≡ Refused (record { number = 21; place = 0 })
+  pub station-tolerance : l ≤ 7 → 1000 < t → station_outcome rooms t l fs xs ≡ Err (record { number = 21; place = 0 })
   unfolding station_outcome
   station-tolerance h k = rw (le-ltb 7 l h, lt-ltb 1000 t k) refl
 
-  pub station-level : l ≤ 7 → t ≤ 1000 → 1 < l → station_outcome rooms t l fs xs ≡ Refused (record { number = 21; place = 0 })
+  pub station-level : l ≤ 7 → t ≤ 1000 → 1 < l → station_outcome rooms t l fs xs ≡ Err (record { number = 21; place = 0 })
   unfolding station_outcome
   station-level h k j = rw (le-ltb 7 l h, le-ltb 1000 t k, lt-ltb 1 l j) refl
 
@@ -51,20 +51,20 @@ module _ (rooms : Counts → List Room) (t l : ℕ) (fs : List ℕ) (xs : List �
 
   -- what a success says
   module _ (c : Counts) where
-    apart : (p q r : Bool) → unless (check 1 (when p) or_else check 21 (when (q || r))) (outcome whole rooms l fs xs) ≡ Success c → (r ≡ false) × (outcome whole rooms l fs xs ≡ Success c)
+    apart : (p q r : Bool) → unless (check 1 (when p) or_else check 21 (when (q || r))) (outcome whole rooms l fs xs) ≡ Ok c → (r ≡ false) × (outcome whole rooms l fs xs ≡ Ok c)
     apart true q r e = absurd (let z : ◌≡◌ {A = ℕ} 0 1 = cc in omega arith)
     apart false true true e = absurd (let z : ◌≡◌ {A = ℕ} 0 1 = cc in omega arith)
     apart false true false e = absurd (let z : ◌≡◌ {A = ℕ} 0 1 = cc in omega arith)
     apart false false true e = absurd (let z : ◌≡◌ {A = ℕ} 0 1 = cc in omega arith)
     apart false false false e = (refl, e)
 
-    pub station-success : station_outcome rooms t l fs xs ≡ Success c → (l ≤ 1) × (outcome whole rooms l fs xs ≡ Success c)
+    pub station-success : station_outcome rooms t l fs xs ≡ Ok c → (l ≤ 1) × (outcome whole rooms l fs xs ≡ Ok c)
     unfolding station_outcome
     station-success e = let a = apart (ltb most_levels l) (ltb most_tolerance t) (ltb 1 l) e in (ltb-false 1 l a.0, a.1)
 
 -- ---- what the whole call leaves of an accepted cage
 
-module _ (l : ℕ) (fs : List ℕ) (xs : List ℤ) (b : Lent (Buffers ℤ)) (r : Outcome) (c : Counts) (call : WholeCall l fs xs b r) (e : r ≡ Success c) where
+module _ (l : ℕ) (fs : List ℕ) (xs : List ℤ) (b : Lent (Buffers ℤ)) (r : Outcome) (c : Counts) (call : WholeCall l fs xs b r) (e : r ≡ Ok c) where
   abbrev ours : List ℕ
   ours = (last whole l fs xs).mesh.faces
 
@@ -129,7 +129,7 @@ module _ (l : ℕ) (fs : List ℕ) (xs : List ℤ) (b : Lent (Buffers ℤ)) (r :
 
 module _ (t l : ℕ) (fs : List ℕ) (xs : List ℤ) (cs : List ℕ) (ys : List ℤ) where
   -- a refusal of its own leaves all as it was
-  pub station-refused : (b : Buffers ℤ) (q : Refusal) (v : Verdict) → station_outcome (whole_room b) t l fs xs ≡ Refused q → v ≡ verdicts.Refused q
+  pub station-refused : (b : Buffers ℤ) (q : Refusal) (v : Verdict) → station_outcome (whole_room b) t l fs xs ≡ Err q → v ≡ verdicts.Refused q
       → StationCall t l fs xs cs ys (record { old = b; new = b }) v
   station-refused b q v e p =
       let h = held t (last whole l fs xs).mesh.faces (exact_limits l fs xs) cs ys in

@@ -30,8 +30,8 @@ use Rattle.rules.proofs.Range.{AllNear}
 use Rattle.weights.specs.Weights.{rule_of}
 use Rattle.weights.specs.Lent.{by_ring, shared, all_of, own as share_own, Shares}
 use Rattle.weights.specs.declared.micrometres.Share.{Share}
-use Rattle.weights.specs.declared.micrometres.Rule.{Rule}
-use Rattle.weights.specs.declared.micrometres.Rule.TheVariants.{Ring, Rim}
+use Rattle.weights.specs.declared.Rule.{Rule}
+use Rattle.weights.specs.declared.Rule.TheVariants.{Ring, Rim}
 use Rattle.levels.specs.Level.{mesh_in}
 use Rattle.station.specs.Far.{Over, raised_at, sum_n, weighted_n, Stands, Exactly, exact0, moved_in, eight_at, eight_in, Ruled, Refined2}
 use Rattle.station.specs.declared.fractions.Over3.{Over3}
@@ -59,18 +59,18 @@ module _ (xs : List ℤ) (near : AllNear xs) (c : ℕ) where
       over-to (omega arith) (ap (λ (k : ℕ). own (ring_rule s (length vs)) k * raised_at xs c u + each (ring_rule s (length vs)) * sum_n (map (raised_at xs c) vs)) a) refl
       (over-blend {D = 1} (ring_rule s (length vs)) (rw a (ring-adds-up s (length vs) h)) (at0 xs near.at c u) (all0 xs near.at c vs))
 
-  pub by-rule : (s : Stage) (rim : Bool) (u : ℕ) (vs : List ℕ) → 0 < length vs → (r : Rule) (d x : ℕ) → r ≡ shared (rule_of s rim (length vs)) → d ≡ all_of r
+  pub by-rule : (s : Stage) (rim : Bool) (u : ℕ) (vs : List ℕ) → 0 < length vs → (r : Rule Share) (d x : ℕ) → r ≡ shared (rule_of s rim (length vs)) → d ≡ all_of r
       → x ≡ weighted_n r (raised_at xs c) u vs → Over d x (by_ring exact s (map of_whole xs) u rim vs c)
   by-rule s rim u vs h r d x e f q =
-      over-to (sym (f ∙ ap all_of e)) (sym (q ∙ ap (λ (k : Rule). weighted_n k (raised_at xs c) u vs) e)) refl (ring-val s rim u vs h)
+      over-to (sym (f ∙ ap all_of e)) (sym (q ∙ ap (λ (k : Rule Share). weighted_n k (raised_at xs c) u vs) e)) refl (ring-val s rim u vs h)
 
 -- ---- what the arms of a rule give
 
-pub ring-weighted : {r : Rule} {b : Share} (f : ℕ → ℕ) (u : ℕ) (vs : List ℕ) {p q x : ℕ} → r ≡ Ring b → p ≡ f u → q ≡ sum_n (map f vs)
+pub ring-weighted : {r : Rule Share} {b : Share} (f : ℕ → ℕ) (u : ℕ) (vs : List ℕ) {p q x : ℕ} → r ≡ Ring b → p ≡ f u → q ≡ sum_n (map f vs)
     → (x ≡ share_own b (length vs) * p + b.each * q) × (x ≤ b.all * (2 * reach)) → (x ≡ weighted_n r f u vs) × (x ≤ all_of r * (2 * reach))
 ring-weighted f u vs e p q x = rw (e, sym p, sym q) x
 
-pub rim-weighted : {r : Rule} {b : Share} (f : ℕ → ℕ) (u : ℕ) (vs : List ℕ) {p q x : ℕ} → r ≡ Rim b → p ≡ f u → q ≡ sum_n (map f (ends vs))
+pub rim-weighted : {r : Rule Share} {b : Share} (f : ℕ → ℕ) (u : ℕ) (vs : List ℕ) {p q x : ℕ} → r ≡ Rim b → p ≡ f u → q ≡ sum_n (map f (ends vs))
     → (x ≡ share_own b 2 * p + b.each * q) × (x ≤ b.all * (2 * reach)) → (x ≡ weighted_n r f u vs) × (x ≤ all_of r * (2 * reach))
 rim-weighted f u vs e p q x = rw (e, sym p, sym q) x
 
@@ -78,7 +78,7 @@ pub ends-sum : (f : ℕ → ℕ) (vs : List ℕ) (a b : ℕ) → 0 < length vs �
 ends-sum f vs a b h p q = let l = ap f (last-at 0 vs h) in omega (arith, p, q, l)
 
 -- the shares of a rule are of a whole above zero, and not of many
-pub shares-few : (r : Rule) (n : ℕ) → Shares r n → (0 < all_of r) × (all_of r ≤ 8 * most_valence)
+pub shares-few : (r : Rule Share) (n : ℕ) → Shares r n → (0 < all_of r) × (all_of r ≤ 8 * most_valence)
 shares-few (Ring b) n h = (h.above, h.few)
 shares-few (Rim b) n h = (h.above, h.few)
 

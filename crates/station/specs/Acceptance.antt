@@ -1,5 +1,5 @@
 -- Request [10]: "Plates made elsewhere".
-use Rattle.std.specs.Prelude.{ℕ, ◌+◌, ◌-◌, ◌*◌, ◌/◌, ◌%◌, ◌<◌, ◌≡◌, Bool, not, ◌&&◌, ◌||◌, List, [], ◌∷◌, T, eqb, ltb, length, get_or, ℤ, pos, nat_abs, ◌-ℤ◌, ◌*ℤ◌}
+use Rattle.std.specs.Prelude.{ℕ, ◌+◌, ◌-◌, ◌*◌, ◌/◌, ◌%◌, ◌<◌, ◌≡◌, Bool, not, ◌&&◌, ◌||◌, List, [], ◌∷◌, T, eqb, ltb, length, get_or, ℤ, pos, nat_abs, ◌-ℤ◌, ◌*ℤ◌, Err, Ok}
 use Rattle.std.proofs.Math.Option.{Option, none, some}
 use Rattle.std.specs.Borrow.{Bor}
 use denote.Triple.Both.{Both}
@@ -12,8 +12,7 @@ use Rattle.rules.specs.Refusals.{check, when, ◌or_else◌, Room, most_levels}
 use Rattle.rules.specs.Answers.{outcome, unless}
 use Rattle.rules.specs.Calls.{given, Lent, Buffers, whole_room, Call, final}
 use Rattle.rules.specs.declared.Counts.{Counts}
-use Rattle.rules.specs.declared.Outcome.{Outcome}
-use Rattle.rules.specs.declared.Outcome.TheVariants as outcomes
+use Rattle.rules.specs.Outcome.{Outcome}
 use Rattle.station.specs.declared.Fault.{Fault}
 use Rattle.station.specs.declared.Fault.TheVariants.{Counts as CountsDiffer, Face, Far}
 use Rattle.station.specs.declared.Verdict.{Verdict}
@@ -72,8 +71,8 @@ station_outcome rooms t l fs xs =
     unless (check 1 (when (ltb most_levels l)) or_else check 21 (when (ltb most_tolerance t || ltb 1 l))) o
 
 abbrev pub judged : Outcome → Verdict → Verdict
-judged (outcomes.Success c) v = v
-judged (outcomes.Refused r) v = Refused r
+judged (Ok c) v = v
+judged (Err r) v = Refused r
 
 -- the verdict on a claim cs, ys of the cage fs, xs at l levels
 abbrev pub verdict : (Counts → List Room) → ℕ → ℕ → List ℕ → List ℤ → List ℕ → List ℤ → Verdict

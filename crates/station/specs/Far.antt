@@ -10,8 +10,9 @@ use Rattle.turns.specs.Turns.{most_valence}
 use Rattle.rules.specs.Mesh.{onward, backward, corner, links, refined}
 use Rattle.rules.specs.Position.{Stage, refining, exact}
 use Rattle.rules.specs.Levels.{ends, coord, new_positions, limits, moved}
-use Rattle.weights.specs.declared.micrometres.Rule.{Rule}
-use Rattle.weights.specs.declared.micrometres.Rule.TheVariants.{Ring, Rim}
+use Rattle.weights.specs.declared.Rule.{Rule}
+use Rattle.weights.specs.declared.Rule.TheVariants.{Ring, Rim}
+use Rattle.weights.specs.declared.micrometres.Share.{Share}
 use Rattle.weights.specs.Lent.{own}
 use Rattle.levels.specs.Level.{mesh_in}
 use Rattle.levels.specs.Moves.{edges_in}
@@ -82,7 +83,7 @@ sum_n [] = 0
 sum_n (x ∷ xs) = x + sum_n xs
 
 -- a vertex and those of its ring that its rule weighs, by what f has of each, out of the whole of its weight
-abbrev pub weighted_n : Rule → (ℕ → ℕ) → ℕ → List ℕ → ℕ
+abbrev pub weighted_n : Rule Share → (ℕ → ℕ) → ℕ → List ℕ → ℕ
 weighted_n (Ring b) f u vs = own b (length vs) * f u + b.each * sum_n (map f vs)
 weighted_n (Rim b) f u vs = own b 2 * f u + b.each * sum_n (map f (ends vs))
 

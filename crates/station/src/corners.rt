@@ -43,12 +43,10 @@ pub fn wrong_face(ours: &[u32], theirs: &[u32], nf: usize) -> Verdict
     requires { (3 * nf ≤ length ours.now) × ((3 * nf ≤ length theirs.now) × (3 * nf < 4294967296)) }
     ensures { result ≡ wrong_face (lowest (λ f. not (same_face ours.now theirs.now f)) nf) }
 {
-    let mut f = 0;
-    while f < nf {
+    for f in 0..nf {
         if !same_face(ours, theirs, f) {
             return Verdict::No(Fault::Face(f as u32));
         }
-        f = f + 1;
     }
     Verdict::Yes
 }

@@ -14,8 +14,8 @@ ghost use Rattle.station.specs.Far.{Exactly, exact0, exact1, raised_at, sum_n, w
 
 use faces::sides::{backward, onward};
 use turns::MOST_VALENCE;
-use weights::Stage;
-use weights::micrometres::{Rule, mix};
+use weights::micrometres::{Share, mix};
+use weights::{Rule, Stage};
 
 // A point over one denominator, in raised numbers.
 #[derive(Clone, Copy)]
@@ -39,11 +39,9 @@ fn ring_sum(xs: &[i32], ring: &[u32], c: usize) -> u64
     requires { (c < 3) × AllReadable xs.now ring.now }
     ensures { (result ≡ sum_n (map (raised_at xs.now c) ring.now)) × (result ≤ length ring.now * (2 * reach)) }
 {
-    let mut x: u64 = 0;
-    let mut i = 0usize;
-    while i < ring.len() {
-        x += at(xs, ring[i] as usize, c);
-        i += 1usize;
+    let mut x = 0;
+    for &v in ring {
+        x += at(xs, v as usize, c);
     }
     x
 }
@@ -57,7 +55,7 @@ fn ends_sum(xs: &[i32], ring: &[u32], c: usize) -> u64
 }
 
 // Coordinate c of vertex u by its rule, out of the whole of its weight.
-fn weighted(xs: &[i32], u: usize, ring: &[u32], rule: Rule, c: usize) -> u64
+fn weighted(xs: &[i32], u: usize, ring: &[u32], rule: Rule<Share>, c: usize) -> u64
     requires ring { (c < 3) × ((0 < length ring.now) × (Readable xs.now u × AllReadable xs.now ring.now)) }
     requires shares { Shares rule (length ring.now) }
     ensures { (result ≡ weighted_n rule (raised_at xs.now c) u ring.now) × (result ≤ all_of rule * (2 * reach)) }
@@ -75,7 +73,7 @@ fn ring_over(xs: &[i32], u: usize, ring: &[u32], rim: bool, stage: Stage) -> Ove
     ensures point { Stands result (by_ring exact (staged stage) (map of_whole xs.now) u rim ring.now) }
     ensures den { Ruled (staged stage) result }
 {
-    let rule = Rule::new(stage, rim, ring.len());
+    let rule = Rule::<Share>::new(stage, rim, ring.len());
     Over3 {
         x: weighted(xs, u, ring, rule, 0),
         y: weighted(xs, u, ring, rule, 1),

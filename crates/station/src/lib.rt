@@ -118,8 +118,8 @@ pub fn accept(
         return refused(21);
     }
     match smooth(levels, indices, coords, positions, out, words, work) {
-        Outcome::Refused(x) => Verdict::Refused(x),
-        Outcome::Success(c) => {
+        Err(x) => Verdict::Refused(x),
+        Ok(c) => {
             let nf = c.faces as usize;
             let nv = c.vertices as usize;
             hold(

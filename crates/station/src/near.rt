@@ -96,13 +96,11 @@ fn far_old(words: &[u32], nf: usize, nv: usize, xs: &[i32], ys: &[i32], t: u32) 
     requires claim { (3 * nv ≤ length ys.now) × (3 * nv < 4294967296) }
     ensures { result ≡ far_from (needs_at (exact0 words.now nf nv xs.now) ys.now) t 0 (3 * nv) }
 {
-    let mut u = 0;
-    while u < nv {
+    for u in 0..nv {
         let v = old_far(words, nf, nv, xs, ys, u, t);
         if !passes(v) {
             return v;
         }
-        u = u + 1;
     }
     Verdict::Yes
 }
@@ -148,15 +146,13 @@ fn far_new(words: &[u32], nf: usize, nv: usize, xs: &[i32], ys: &[i32], t: u32) 
     ensures { result ≡ far_from (needs_at (exact1 words.now nf nv xs.now) ys.now) t (3 * nv) (3 * edges_in words.now 0 nf) }
 {
     let mut k = 0;
-    let mut s = 0;
-    while s < 3 * nf {
+    for s in 0..3 * nf {
         let met = first_met(words[3 * nf + s], s as u32);
         let v = new_far(words, nf, nv, xs, ys, s, k, met, t);
         if !passes(v) {
             return v;
         }
         k = counted(met, k);
-        s = s + 1;
     }
     Verdict::Yes
 }

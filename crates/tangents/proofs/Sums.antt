@@ -75,19 +75,6 @@ module _ (p d : Vec3) where
   rim-two (a ∷ []) h = absurd (omega arith)
   rim-two (a ∷ b ∷ l) h = refl
 
-  pub rim-three : (l : List Vec3) → 3 ≤ length l → rim_tangent p (take 3 l) ≡ minus (get_or l 1 d) p
-  rim-three [] h = absurd (omega arith)
-  rim-three (a ∷ []) h = absurd (omega arith)
-  rim-three (a ∷ b ∷ []) h = absurd (omega arith)
-  rim-three (a ∷ b ∷ c ∷ l) h = refl
-
-  pub four_are : (l : List Vec3) → 4 ≤ length l → take 4 l ≡ get_or l 0 d ∷ get_or l 1 d ∷ get_or l 2 d ∷ get_or l 3 d ∷ []
-  four_are [] h = absurd (omega arith)
-  four_are (a ∷ []) h = absurd (omega arith)
-  four_are (a ∷ b ∷ []) h = absurd (omega arith)
-  four_are (a ∷ b ∷ c ∷ []) h = absurd (omega arith)
-  four_are (a ∷ b ∷ c ∷ e ∷ l) h = refl
-
   pub rim-many : (rs : List Vec3) (m : ℕ) → length rs ≡ suc m → 4 ≤ m →
       rim_tangent p rs ≡ negated (weighted (rim_weight m) 1 (scaled (plus (get_or rs 0 d) (get_or rs m d)) (half_sine 1 m)) (part 1 (m - 1) rs))
   rim-many [] m e h = absurd (omega arith)

@@ -2,7 +2,7 @@
 #![tactic(auto)]
 
 ghost use Rattle.std.specs.Prelude.{◌≡◌, ◌+◌, ◌≤◌, ◌<◌, pos, get_or};
-ghost use Rattle.turns.specs.Table.{place, cos_table, sin_table, Has};
+ghost use Rattle.turns.specs.Table.{place, Tables, Has};
 ghost use Rattle.turns.specs.Turns.{most_valence, entry, half_cosine, half_sine, cosine, sine};
 
 pub const MOST_VALENCE: usize = 24;
@@ -88,19 +88,6 @@ fn place(k: usize, m: usize) -> usize
     m * (m + 1) / 2 - 6 + k
 }
 
-// A constant array is written out wherever it is named, so a caller makes each table once and lends it.
-pub fn cosines() -> [i32; SIZE]
-    ensures { result ≡ cos_table }
-{
-    COS
-}
-
-pub fn sines() -> [i32; SIZE]
-    ensures { result ≡ sin_table }
-{
-    SIN
-}
-
 fn entry(table: &[i32], k: usize, m: usize) -> f32
     requires le_m { (3 ≤ m) × (m ≤ most_valence) × (k ≤ m) }
     requires has { Has table.now k m }
@@ -110,42 +97,52 @@ fn entry(table: &[i32], k: usize, m: usize) -> f32
     (table[i] as f32) / 16777216.0
 }
 
-pub fn half_cosine(cos: &[i32], k: usize, m: usize) -> f32
-    requires cos_value { cos.now ≡ cos_table }
-    requires le_m { (3 ≤ m) × (m ≤ most_valence) × (k ≤ m) }
-    ensures { result ≡ half_cosine k m }
-{
-    entry(cos, k, m)
+// Both tables. A constant array is written out wherever it is named, so a caller makes them once and lends them.
+#[derive(Drop)]
+pub struct Tables {
+    cos: [i32; SIZE],
+    sin: [i32; SIZE],
+    ghost made: { Tables cos sin },
 }
 
-pub fn half_sine(sin: &[i32], k: usize, m: usize) -> f32
-    requires sin_value { sin.now ≡ sin_table }
-    requires le_m { (3 ≤ m) × (m ≤ most_valence) × (k ≤ m) }
-    ensures { result ≡ half_sine k m }
-{
-    entry(sin, k, m)
-}
-
-pub fn cosine(cos: &[i32], i: usize, n: usize) -> f32
-    requires cos_value { cos.now ≡ cos_table }
-    requires le_n { (3 ≤ n) × (n ≤ most_valence) × (i < n) }
-    ensures { result ≡ cosine i n }
-{
-    if 2 * i <= n {
-        half_cosine(cos, 2 * i, n)
-    } else {
-        half_cosine(cos, 2 * (n - i), n)
+impl Tables {
+    pub fn new() -> Tables {
+        Tables { cos: COS, sin: SIN }
     }
-}
 
-pub fn sine(sin: &[i32], i: usize, n: usize) -> f32
-    requires sin_value { sin.now ≡ sin_table }
-    requires le_n { (3 ≤ n) × (n ≤ most_valence) × (i < n) }
-    ensures { result ≡ sine i n }
-{
-    if 2 * i <= n {
-        half_sine(sin, 2 * i, n)
-    } else {
-        -half_sine(sin, 2 * (n - i), n)
+    pub fn half_cosine(&self, k: usize, m: usize) -> f32
+        requires { (3 ≤ m) × (m ≤ most_valence) × (k ≤ m) }
+        ensures { result ≡ half_cosine k m }
+    {
+        entry(&self.cos, k, m)
+    }
+
+    pub fn half_sine(&self, k: usize, m: usize) -> f32
+        requires { (3 ≤ m) × (m ≤ most_valence) × (k ≤ m) }
+        ensures { result ≡ half_sine k m }
+    {
+        entry(&self.sin, k, m)
+    }
+
+    pub fn cosine(&self, i: usize, n: usize) -> f32
+        requires { (3 ≤ n) × (n ≤ most_valence) × (i < n) }
+        ensures { result ≡ cosine i n }
+    {
+        if 2 * i <= n {
+            self.half_cosine(2 * i, n)
+        } else {
+            self.half_cosine(2 * (n - i), n)
+        }
+    }
+
+    pub fn sine(&self, i: usize, n: usize) -> f32
+        requires { (3 ≤ n) × (n ≤ most_valence) × (i < n) }
+        ensures { result ≡ sine i n }
+    {
+        if 2 * i <= n {
+            self.half_sine(2 * i, n)
+        } else {
+            -self.half_sine(2 * (n - i), n)
+        }
     }
 }

@@ -1,72 +1,79 @@
 // Points of three floats, by value, and their operators as the Rust has them.
 #![tactic(auto)]
 
-ghost use Rattle.std.specs.Prelude.{◌≡◌, to_bits};
-ghost use Rattle.std.specs.Float.{binary32};
-ghost use Rattle.vectors.specs.Narrow.{narrowed};
-ghost use Rattle.vectors.specs.Vectors.{plus, minus, negated, scaled, origin, minor, cross};
+ghost use Rattle.std.specs.Prelude.{◌≡◌};
+ghost use Rattle.vectors.specs.Vectors.{plus, minus, negated, scaled, minor, cross};
 
 pub mod narrow;
 
+use std::ops::{Add, Mul, Neg, Sub};
+
 #[repr(C)]
-#[derive(Clone, Copy)]
+#[derive(Clone, Copy, Default)]
 pub struct Vec3 {
     pub x: f32,
     pub y: f32,
     pub z: f32,
 }
 
-impl Vec3 {
-    pub fn default() -> Vec3
-        ensures { result ≡ origin }
-    {
-        Vec3 {
-            x: 0.0,
-            y: 0.0,
-            z: 0.0,
-        }
-    }
+impl Add for Vec3 {
+    type Output = Vec3;
 
-    pub fn add(self, b: Vec3) -> Vec3
-        ensures { result ≡ plus self b }
-    {
+    ghost add_gives = { λ a b r. r ≡ plus a b };
+
+    fn add(self, b: Vec3) -> Vec3 {
         Vec3 {
             x: self.x + b.x,
             y: self.y + b.y,
             z: self.z + b.z,
         }
     }
+}
 
-    pub fn sub(self, b: Vec3) -> Vec3
-        ensures { result ≡ minus self b }
-    {
+impl Sub for Vec3 {
+    type Output = Vec3;
+
+    ghost sub_gives = { λ a b r. r ≡ minus a b };
+
+    fn sub(self, b: Vec3) -> Vec3 {
         Vec3 {
             x: self.x - b.x,
             y: self.y - b.y,
             z: self.z - b.z,
         }
     }
+}
 
-    pub fn neg(self) -> Vec3
-        ensures { result ≡ negated self }
-    {
+impl Neg for Vec3 {
+    type Output = Vec3;
+
+    ghost neg_gives = { λ a r. r ≡ negated a };
+
+    fn neg(self) -> Vec3 {
         Vec3 {
             x: -self.x,
             y: -self.y,
             z: -self.z,
         }
     }
+}
 
-    pub fn mul(self, k: f32) -> Vec3
-        ensures { result ≡ scaled self k }
-    {
+// A point times a number, in this order.
+impl Mul<f32> for Vec3 {
+    type Output = Vec3;
+
+    ghost mul_gives = { λ a k r. r ≡ scaled a k };
+
+    fn mul(self, k: f32) -> Vec3 {
         Vec3 {
             x: self.x * k,
             y: self.y * k,
             z: self.z * k,
         }
     }
+}
 
+impl Vec3 {
     pub fn cross(self, b: Vec3) -> Vec3
         ensures { result ≡ cross self b }
     {
@@ -89,19 +96,4 @@ fn minor(a: f32, b: f32, c: f32, d: f32) -> f32
     ensures { result ≡ minor a b c d }
 {
     narrow::narrow(wide(a) * wide(b) - wide(c) * wide(d))
-}
-
-// The two below are for C, which compares them with its own arithmetic.
-#[unsafe(no_mangle)]
-pub extern "C" fn vectors_narrow(x: f64) -> u32
-    ensures { result ≡ to_bits binary32 (narrowed x) }
-{
-    narrow::pattern(x)
-}
-
-#[unsafe(no_mangle)]
-pub extern "C" fn vectors_cross(a: Vec3, b: Vec3) -> Vec3
-    ensures { result ≡ cross a b }
-{
-    a.cross(b)
 }

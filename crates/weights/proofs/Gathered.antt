@@ -18,11 +18,6 @@ use Rattle.rules.specs.Levels.{ends, coord, three}
 use Rattle.weights.specs.Weights.{rule_of, carried, alike, nowhere}
 use Rattle.weights.specs.Lent.{by_ring, listed, point_at, ringful, weighted_point}
 
-pub point-is : (xs : List Float) (v : ℕ) (d : Float) → 3 * v + 3 ≤ length xs →
-    ◌≡◌ {A = Vec3} (record { x = get_or xs (3 * v) d; y = get_or xs (3 * v + 1) d; z = get_or xs (3 * v + 2) d }) (point_at xs v)
-point-is xs v d h =
-    rw (add-zero (3 * v), get_d_any xs (3 * v) d single.nought (omega arith), get_d_any xs (3 * v + 1) d single.nought (omega arith), get_d_any xs (3 * v + 2) d single.nought (omega arith))
-
 -- ---- coordinate by coordinate
 alike_is : (f : Float → List Float → Float) (l : List Float) (v : ℕ) (vs : List ℕ) → listed (alike f (point_at l v) (map (point_at l) vs)) ≡ three single (λ c. f (coord single l c v) (map (coord single l c) vs))
 alike_is f l v vs = rw (map-map (point_at l) (λ q. q.x) vs, map-map (point_at l) (λ q. q.y) vs, map-map (point_at l) (λ q. q.z) vs)
@@ -38,8 +33,3 @@ module _ (l : List Float) (vs : List ℕ) where
   fill_more o i k e f =
       ap₂ (λ (x : List Vec3) (y : Vec3). set x i y) e (f ∙ sym (get_d_map (point_at l) vs i 0 nowhere k))
       ∙ copy_more o (map (point_at l) vs) i nowhere (rw (length-map vs (point_at l)) k)
-
-  pub fill-all : (o : Vec3) {i : ℕ} {out : List Vec3} → i ≡ length vs → out ≡ sets (replicate most_valence o) 0 (take i (map (point_at l) vs)) → o ≡ origin →
-      out ≡ ringful (map (point_at l) vs)
-  fill-all o {i} k e f =
-      e ∙ ap₂ (λ (x : Vec3) (y : List Vec3). sets (replicate most_valence x) 0 y) f (take_all i (map (point_at l) vs) (omega (arith, length-map vs (point_at l))))

@@ -26,7 +26,7 @@ use Rattle.faces.specs.Words.{links_in, Holds}
 use Rattle.faces.specs.Rings.{is_rim, ring_of}
 use Rattle.faces.specs.declared.rings.Ring.{Ring}
 use Rattle.faces.proofs.Held.{length-ring, start-ring, start-ring-of}
-use Rattle.weights.specs.Lent.{by_ring, on_rim, within, There, AllThere, Readable, AllReadable}
+use Rattle.weights.specs.Lent.{by_ring, on_rim, within, AllOf, There, AllThere, Readable, AllReadable}
 
 module _ (𝓝 : Numbers) (s : Stage) (fs : List ℕ) (xs : List 𝓝.N) (u : ℕ) where
   by-fan : (f : Fan) → f ≢ endless → (c : ℕ) → by_ring 𝓝 s xs u (is_rim f) (ring fs f) c ≡ blended 𝓝 s fs xs u f c
@@ -81,11 +81,14 @@ module _ (n : ℕ) (m : Mesh) (p : Sound n m) (few : Small most_valence m) (u : 
   pub ring-below : (k : ℕ) → k < length (ring_at m u) → get_or (ring_at m u) k 0 < m.verts
   ring-below k l = below m.verts n m.faces p.good (get_or m.starts u 0) (fan_at m u) turns k l
 
+  pub ring-all : {N : Type 0} (P : List N → ℕ → Type 0) (xs : List N) → ((j : ℕ) → j < m.verts → P xs j) → AllOf P xs (ring_at m u)
+  ring-all P xs f = record { few = ring-few; at = λ k q. f (get_or (ring_at m u) k 0) (ring-below k q) }
+
   pub ring-readable : {xs : List ℤ} → 3 * m.verts ≤ length xs → AllNear xs → AllReadable xs (ring_at m u)
-  ring-readable l a = record { few = ring-few; at = λ k q. readable l a (ring-below k q) }
+  ring-readable {xs} l a = ring-all Readable xs (λ j q. readable l a q)
 
   pub ring-there : {xs : List Float} → 3 * m.verts ≤ length xs → AllThere xs (ring_at m u)
-  ring-there l = record { few = ring-few; at = λ k q. there l (ring-below k q) }
+  ring-there {xs} l = ring-all There xs (λ j q. there l q)
 
   pub moved_by : (𝓝 : Numbers) (s : Stage) (xs : List 𝓝.N) → three 𝓝 (by_ring 𝓝 s xs u (is_rim (fan_at m u)) (ring_at m u)) ≡ moved 𝓝 s m (links m.faces) xs u
   unfolding moved

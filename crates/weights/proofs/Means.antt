@@ -80,24 +80,9 @@ pub shares_whole : (s : Stage) (rim : Bool) (n : ℕ) → 0 < n → n ≤ most_v
 shares_whole s true n h k = let a = rim-adds-up s in record { above = a.above; few = few-rim s; together = a.all }
 shares_whole s false n h k = let a = ring-adds-up s n h in record { above = a.above; few = few s (eqb n 3) n refl k; together = a.all }
 
--- what they give of vertex v and the sum of vs
-pub means-are : (b : Share) (xs : List ℤ) (v : ℕ) (vs : List ℕ) (s : Whole3) → Stands3 s (length vs) (sum_of xs vs) → means b (length vs) xs v s ≡ three whole (weighed_whole b xs v vs)
-means-are b xs v vs s t = rw (t.0.0, t.1.0.0, t.1.1.0)
-
 -- and by the rule it is what the rule gives
 pub vertex-whole : (s : Stage) (xs : List ℤ) (v : ℕ) (rim : Bool) (vs : List ℕ) → three whole (weighted_whole (shared (rule_of s rim (length vs))) xs v vs) ≡ three whole (by_ring whole s xs v rim vs)
 vertex-whole s xs v true vs = refl
 vertex-whole s xs v false vs =
     let e : (c : ℕ) → length (map (coord whole xs c) vs) ≡ length vs = λ c. length-map vs (coord whole xs c) in
     rw (e 0, e 1, e 2)
-
-pub three-of : {A : Type 0} {a b c x y z : A} → x ≡ a → y ≡ b → z ≡ c → x ∷ y ∷ z ∷ [] ≡ a ∷ b ∷ c ∷ []
-three-of a b c = cc
-
--- ---- the ends of an edge in order
-by_order : (P : ℕ → Type 0) (t : Bool) (a b : ℕ) → leb a b ≡ t → P a → P b → P (min a b) × P (max a b)
-by_order P true a b e p q = let l = leb-true a b e in let x : min a b ≡ a = omega arith in let y : max a b ≡ b = omega arith in rw (x, y) (p, q)
-by_order P false a b e p q = let l = leb-false a b e in let x : min a b ≡ b = omega arith in let y : max a b ≡ a = omega arith in rw (x, y) (q, p)
-
-pub readable-ends : {xs : List ℤ} {a b : ℕ} → Readable xs a → Readable xs b → Readable xs (min a b) × Readable xs (max a b)
-readable-ends {xs} {a} {b} p q = by_order (Readable xs) (leb a b) a b refl p q

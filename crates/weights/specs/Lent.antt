@@ -9,11 +9,9 @@ use Rattle.turns.specs.Turns.{most_valence}
 use Rattle.rules.specs.Position as paper
 use Rattle.rules.specs.Position.{Stage, ring_rule, rim_rule, each, out_of, Numbers, sum, weighed, single, whole}
 use Rattle.rules.specs.Levels.{ends, coord}
-use Rattle.weights.specs.Weights.{rule_of, alike}
+use Rattle.weights.specs.Weights.{rule_of, carrying, alike}
 use Rattle.weights.specs.declared.Rule.{Rule}
 use Rattle.weights.specs.declared.Rule.TheVariants.{Ring, Rim}
-use Rattle.weights.specs.declared.micrometres.Rule as wholes
-use Rattle.weights.specs.declared.micrometres.Rule.TheVariants.{Ring as RingShare, Rim as RimShare}
 use Rattle.weights.specs.declared.micrometres.Share.{Share}
 use Rattle.weights.specs.declared.micrometres.Whole3.{Whole3}
 
@@ -39,6 +37,11 @@ module _ (𝓝 : Numbers) where
   abbrev pub within : List 𝓝.N → ℕ → ℕ → ℕ → ℕ → ℕ → 𝓝.N
   within xs a b d e c = eighthway xs (min a b) (max a b) d e c
 
+-- the coordinates of a ring, where P is what is asked of those of a vertex
+pub record AllOf {N : Type 0} (P : List N → ℕ → Type 0) (xs : List N) (vs : List ℕ) : Type 0 where
+  pub few : length vs ≤ most_valence
+  pub at : (k : ℕ) → k < length vs → P xs (get_or vs k 0)
+
 -- ---- f32
 
 -- the coordinates of vertex v are there
@@ -46,9 +49,8 @@ pub record There (xs : List Float) (v : ℕ) : Type 0 where
   pub room : 3 * v + 3 ≤ length xs
 
 -- and those of a ring
-pub record AllThere (xs : List Float) (vs : List ℕ) : Type 0 where
-  pub few : length vs ≤ most_valence
-  pub at : (k : ℕ) → k < length vs → There xs (get_or vs k 0)
+abbrev pub AllThere : List Float → List ℕ → Type 0
+AllThere = AllOf There
 
 abbrev pub point_at : List Float → ℕ → Vec3
 point_at xs v = record { x = coord single xs 0 v; y = coord single xs 1 v; z = coord single xs 2 v }
@@ -57,7 +59,7 @@ point_at xs v = record { x = coord single xs 0 v; y = coord single xs 1 v; z = c
 abbrev pub weighed_point : Float → List Float → ℕ → List ℕ → Vec3
 weighed_point b xs v vs = alike (weighed b) (point_at xs v) (map (point_at xs) vs)
 
-abbrev pub weighted_point : Rule → List Float → ℕ → List ℕ → Vec3
+abbrev pub weighted_point : Rule Float → List Float → ℕ → List ℕ → Vec3
 weighted_point (Ring b) xs v vs = weighed_point b xs v vs
 weighted_point (Rim b) xs v vs = weighed_point b xs v (ends vs)
 
@@ -76,9 +78,8 @@ pub record Readable (xs : List ℤ) (v : ℕ) : Type 0 where
   pub near : (c : ℕ) → c < 3 → Near (get_or xs (3 * v + c) (pos 0))
 
 -- and those of a ring
-pub record AllReadable (xs : List ℤ) (vs : List ℕ) : Type 0 where
-  pub few : length vs ≤ most_valence
-  pub at : (k : ℕ) → k < length vs → Readable xs (get_or vs k 0)
+abbrev pub AllReadable : List ℤ → List ℕ → Type 0
+AllReadable = AllOf Readable
 
 -- s is a sum of raised numbers of weight w in all, and stands for z
 abbrev pub Stands : ℕ → ℕ → ℤ → Type 0
@@ -95,13 +96,12 @@ abbrev pub share_of : paper.Rule → Share
 share_of r = record { each = each r; all = out_of r }
 
 -- "A vertex rule is either a ring weight or a rim weight, and carries it"
-abbrev pub shared : paper.Rule → wholes.Rule
-shared (ring_rule s n) = RingShare (share_of (ring_rule s n))
-shared (rim_rule s) = RimShare (share_of (rim_rule s))
+abbrev pub shared : paper.Rule → Rule Share
+shared = carrying share_of
 
-abbrev pub all_of : wholes.Rule → ℕ
-all_of (RingShare b) = b.all
-all_of (RimShare b) = b.all
+abbrev pub all_of : Rule Share → ℕ
+all_of (Ring b) = b.all
+all_of (Rim b) = b.all
 
 -- 1 - k b, out of the same
 abbrev pub own : Share → ℕ → ℕ
@@ -120,9 +120,9 @@ means b k xs v s =
 abbrev pub weighed_whole : Share → List ℤ → ℕ → List ℕ → ℕ → ℤ
 weighed_whole b xs v vs c = mean b (length vs) (coord whole xs c v) (sum_of xs vs c)
 
-abbrev pub weighted_whole : wholes.Rule → List ℤ → ℕ → List ℕ → ℕ → ℤ
-weighted_whole (RingShare b) xs v vs c = weighed_whole b xs v vs c
-weighted_whole (RimShare b) xs v vs c = weighed_whole b xs v (ends vs) c
+abbrev pub weighted_whole : Rule Share → List ℤ → ℕ → List ℕ → ℕ → ℤ
+weighted_whole (Ring b) xs v vs c = weighed_whole b xs v vs c
+weighted_whole (Rim b) xs v vs c = weighed_whole b xs v (ends vs) c
 
 -- k times b and 1 - k b add up, to few enough
 pub record Whole (b : Share) (k : ℕ) : Type 0 where
@@ -131,9 +131,9 @@ pub record Whole (b : Share) (k : ℕ) : Type 0 where
   pub together : own b k + k * b.each ≡ b.all
 
 -- so do those of a rule, over a ring of n
-abbrev pub Shares : wholes.Rule → ℕ → Type 0
-Shares (RingShare b) n = Whole b n
-Shares (RimShare b) n = Whole b 2
+abbrev pub Shares : Rule Share → ℕ → Type 0
+Shares (Ring b) n = Whole b n
+Shares (Rim b) n = Whole b 2
 
 -- sums of k raised numbers
 abbrev pub Few3 : Whole3 → ℕ → Type 0

@@ -19,9 +19,12 @@ abbrev pub rule_of : paper.Stage → Bool → ℕ → paper.Rule
 rule_of s rim n = pick rim (rim_rule s) (ring_rule s n)
 
 -- "A vertex rule is either a ring weight or a rim weight, and carries it"
-abbrev pub carried : paper.Rule → Rule
-carried (ring_rule s n) = Ring (weight (ring_rule s n))
-carried (rim_rule s) = Rim (weight (rim_rule s))
+abbrev pub carrying : {W : Type 0} → (paper.Rule → W) → paper.Rule → Rule W
+carrying of (ring_rule s n) = Ring (of (ring_rule s n))
+carrying of (rim_rule s) = Rim (of (rim_rule s))
+
+abbrev pub carried : paper.Rule → Rule Float
+carried = carrying weight
 
 -- x, y and z alike
 abbrev pub alike : (Float → List Float → Float) → Vec3 → List Vec3 → Vec3

@@ -1,17 +1,21 @@
-// docs/RULES.md, Positions: the weights of a vertex rule and of an edge, and the points that they give. The rules in f32; their twins in whole micrometres.
+// docs/RULES.md, Positions: the weights of a vertex rule and of an edge, and the points that they give. What every number shares stands here, the rules in f32 in `points`
+// and those in whole micrometres in `micrometres`.
 #![tactic(auto)]
 
 pub mod micrometres;
 pub mod points;
 
-ghost use Rattle.std.specs.Prelude.{◌≡◌, ◌<◌, ◌≤◌, min, max, length};
+ghost use Rattle.std.specs.Prelude.{◌≡◌, ◌+◌, ◌*◌, ◌<◌, ◌≤◌, ℕ, List, min, max, length};
+ghost use Rattle.std.proofs.lemmas.List.Edits.{sets};
 ghost use Rattle.turns.specs.Turns.{most_valence};
-ghost use Rattle.rules.specs.Position.{refining, limit, f32, beta, loop_gamma};
-ghost use Rattle.weights.specs.Weights.{staged, rule_of, carried, half_point, eighth_point};
-ghost use Rattle.weights.specs.Lent.{There, AllThere, weighted_point};
+ghost use Rattle.rules.specs.Position as paper;
+ghost use Rattle.rules.specs.Position.{refining, limit, ring_rule, rim_rule, numbers_of};
+ghost use Rattle.rules.specs.Levels.{three};
+ghost use Rattle.weights.specs.Weights.{staged, rule_of, carrying};
+ghost use Rattle.weights.specs.Lent.{by_ring, on_rim, within, AllOf};
 
 use faces::sides::VertNo;
-use vectors::Vec3;
+use rules::numbers::Number;
 
 // Whether a vertex is moved to the next level, or to its limit.
 #[derive(Clone, Copy)]
@@ -20,68 +24,113 @@ pub enum Stage {
     Limit,
 }
 
-// A vertex rule: a weight on each point of the ring, or on its first and its last.
-#[derive(Clone, Copy)]
-pub enum Rule {
-    Ring(f32),
-    Rim(f32),
+// A weight, out of one whole.
+pub trait Weight: Copy {
+    // That of a vertex rule.
+    ghost of: { paper.Rule → Self };
+
+    ghost RIM_REFINING: { Self };
+
+    const RIM_REFINING: Self;
+
+    ghost RIM_LIMIT: { Self };
+
+    const RIM_LIMIT: Self;
+
+    fn beta(n: usize) -> Self
+        requires { n ≤ most_valence }
+        ensures { result ≡ of (ring_rule refining n) };
+
+    fn loop_gamma(n: usize) -> Self
+        requires { n ≤ most_valence }
+        ensures { result ≡ of (ring_rule limit n) };
+
+    ghost rim_refining: { RIM_REFINING ≡ of (rim_rule refining) };
+
+    ghost rim_limit: { RIM_LIMIT ≡ of (rim_rule limit) };
 }
 
-impl Rule {
-    pub const VALENCE_THREE: f32 = 0.1875;
+// A vertex rule: a weight on each point of the ring, or on its first and its last.
+#[derive(Clone, Copy)]
+pub enum Rule<W> {
+    Ring(W),
+    Rim(W),
+}
 
-    pub const RIM_REFINING: f32 = 0.125;
-
-    pub const RIM_LIMIT: f32 = 0.2;
-
-    pub const EDGE_RIM: f32 = 0.5;
-
-    pub const EDGE_END: f32 = 0.375;
-
-    pub const EDGE_FAR: f32 = 0.125;
-
-    pub fn refining(rim: bool, n: usize) -> Rule
+impl<W: Weight> Rule<W> {
+    pub fn refining(rim: bool, n: usize) -> Rule<W>
         requires { n ≤ most_valence }
-        ensures { result ≡ carried (rule_of refining rim n) }
+        ensures { result ≡ carrying W.of (rule_of refining rim n) }
     {
         if rim {
-            Rule::Rim(Rule::RIM_REFINING)
+            Rule::Rim(W::RIM_REFINING)
         } else {
-            Rule::Ring(beta(n))
+            Rule::Ring(W::beta(n))
         }
     }
 
-    pub fn limit(rim: bool, n: usize) -> Rule
+    pub fn limit(rim: bool, n: usize) -> Rule<W>
         requires { n ≤ most_valence }
-        ensures { result ≡ carried (rule_of limit rim n) }
+        ensures { result ≡ carrying W.of (rule_of limit rim n) }
     {
         if rim {
-            Rule::Rim(Rule::RIM_LIMIT)
+            Rule::Rim(W::RIM_LIMIT)
         } else {
-            Rule::Ring(loop_gamma(n))
+            Rule::Ring(W::loop_gamma(n))
         }
     }
 
-    pub fn new(stage: Stage, rim: bool, n: usize) -> Rule
+    pub fn new(stage: Stage, rim: bool, n: usize) -> Rule<W>
         requires { n ≤ most_valence }
-        ensures { result ≡ carried (rule_of (staged stage) rim n) }
+        ensures { result ≡ carrying W.of (rule_of (staged stage) rim n) }
     {
         match stage {
             Stage::Refining => Rule::refining(rim, n),
             Stage::Limit => Rule::limit(rim, n),
         }
     }
+}
 
-    // Vertex v, by its ring.
-    pub fn weighted(self, xs: &[f32], v: VertNo, ring: &[u32]) -> Vec3
-        requires { There xs.now v.0 × ((0 < length ring.now) × AllThere xs.now ring.now) }
-        ensures { result ≡ weighted_point self xs.now v.0 ring.now }
-    {
-        match self {
-            Rule::Ring(b) => points::weight_one_ring(xs, v, ring, b),
-            Rule::Rim(b) => points::weight_boundary(xs, v, ring, b),
-        }
-    }
+// A number whose points the rules weigh, over lent coordinates, three to a vertex.
+pub trait Weighed: Number {
+    // A new point, before it is stored.
+    type Point: Copy;
+
+    // The coordinates that a point stands for, and what holds of each that a rule gives.
+    ghost listed: { Self.Point → List Self };
+
+    ghost Raised: { Self.Point → Type 0 };
+
+    // What a rule asks of the coordinates of a vertex, and what gives it of all vertices.
+    ghost Readable: { List Self → ℕ → Type 0 };
+
+    ghost AllNear: { List Self → Type 0 };
+
+    // Vertex v by the rule of the stage, from its ring.
+    fn vertex(xs: &[Self], v: VertNo, ring: &[u32], rim: bool, stage: Stage) -> Self::Point
+        requires { Readable xs.now v.0 × ((0 < length ring.now) × AllOf Readable xs.now ring.now) }
+        ensures point { listed result ≡ three (numbers_of Self.on) (by_ring (numbers_of Self.on) (staged stage) xs.now v.0 rim ring.now) }
+        ensures near { Raised result };
+
+    // The new vertex of a rim edge, between a and b.
+    fn edge_rim(xs: &[Self], a: VertNo, b: VertNo) -> Self::Point
+        requires { Readable xs.now a.0 × Readable xs.now b.0 }
+        ensures point { listed result ≡ three (numbers_of Self.on) (on_rim (numbers_of Self.on) xs.now a.0 b.0) }
+        ensures near { Raised result };
+
+    // The new vertex of an inner edge, between a and b; d is the far corner of the first face, e of the other.
+    fn edge_inner(xs: &[Self], a: VertNo, b: VertNo, d: VertNo, e: VertNo) -> Self::Point
+        requires readable { Readable xs.now a.0 × Readable xs.now b.0 }
+        requires readable_2 { Readable xs.now d.0 × Readable xs.now e.0 }
+        ensures point { listed result ≡ three (numbers_of Self.on) (within (numbers_of Self.on) xs.now a.0 b.0 d.0 e.0) }
+        ensures near { Raised result };
+
+    fn put(p: Self::Point, xs: &mut [Self], i: usize)
+        requires { (i + 3 ≤ length xs.old) × Raised p }
+        ensures { xs.new ≡ sets xs.old i (listed p) };
+
+    // Where all coordinates are near, every vertex can be read.
+    ghost readable: { (xs : List Self) (v : ℕ) → 3 * v + 3 ≤ length xs → AllNear xs → Readable xs v };
 }
 
 // The ends of an edge in order of their numbers.
@@ -95,44 +144,4 @@ pub fn higher(a: VertNo, b: VertNo) -> VertNo
     ensures { result.0 ≡ max a.0 b.0 }
 {
     if a.0 < b.0 { b } else { a }
-}
-
-fn number(n: usize) -> f32
-    requires { n ≤ most_valence }
-    ensures { result ≡ f32 n }
-{
-    n as f32
-}
-
-pub fn beta(n: usize) -> f32
-    requires { n ≤ most_valence }
-    ensures { result ≡ beta n }
-{
-    if n == 3 {
-        Rule::VALENCE_THREE
-    } else {
-        3.0 / (8.0 * number(n))
-    }
-}
-
-pub fn loop_gamma(n: usize) -> f32
-    requires { n ≤ most_valence }
-    ensures { result ≡ loop_gamma n }
-{
-    1.0 / (number(n) + 3.0 / (8.0 * beta(n)))
-}
-
-// A rim edge, lower-numbered end first.
-pub fn edge_rim(a: Vec3, b: Vec3) -> Vec3
-    ensures { result ≡ half_point a b }
-{
-    a.mul(Rule::EDGE_RIM).add(b.mul(Rule::EDGE_RIM))
-}
-
-// An inner edge: lower-numbered end, higher, far corner of the first face, of the other.
-pub fn edge_inner(a: Vec3, b: Vec3, c: Vec3, d: Vec3) -> Vec3
-    ensures { result ≡ eighth_point a b c d }
-{
-    let ends = a.mul(Rule::EDGE_END).add(b.mul(Rule::EDGE_END));
-    ends.add(c.mul(Rule::EDGE_FAR)).add(d.mul(Rule::EDGE_FAR))
 }

@@ -1,14 +1,13 @@
 // The rules in whole micrometres, over lent coordinates. A coordinate is read raised, so that all sums are of naturals; `whole::rounded` is the one place that rounds.
-ghost use Rattle.std.specs.Prelude.{◌≡◌, ◌+◌, ◌*◌, ◌<◌, ◌≤◌, length};
+ghost use Rattle.std.specs.Prelude.{◌≡◌, ◌+◌, ◌*◌, ◌<◌, ◌≤◌, refl, length};
 ghost use Rattle.std.proofs.lemmas.List.Edits.{sets};
-ghost use Rattle.turns.specs.Turns.{most_valence};
-ghost use Rattle.rules.specs.Position.{refining, limit, ring_rule, whole};
+ghost use Rattle.rules.specs.Position.{refining, limit, rim_rule, whole};
 ghost use Rattle.rules.specs.Levels.{ends, coord, three};
-ghost use Rattle.weights.specs.Weights.{staged, rule_of};
-ghost use Rattle.weights.specs.Lent.{by_ring, halfway, eighthway, on_rim, within, Readable, AllReadable, Stands, Stands3, sum_of, share_of, shared, all_of, own, mean, means, weighted_whole, Whole, Shares, Few3, lowered, Raised3};
+ghost use Rattle.rules.specs.Sound.{AllNear};
+ghost use Rattle.weights.specs.Lent.{halfway, eighthway, Readable, AllReadable, Stands, Stands3, sum_of, share_of, all_of, own, mean, means, weighted_whole, Whole, Shares, Few3, lowered, Raised3};
 ghost use Rattle.whole.specs.Whole.{reach, lower as lower_by};
 
-use crate::{Stage, higher, lower};
+use crate::{Rule, Stage, Weighed, Weight, higher, lower};
 use faces::sides::VertNo;
 use whole::{put, raised_at, rounded};
 
@@ -19,59 +18,55 @@ pub struct Share {
     pub all: u64,
 }
 
-// A vertex rule: a weight on each point of the ring, or on its first and its last.
-#[derive(Clone, Copy)]
-pub enum Rule {
-    Ring(Share),
-    Rim(Share),
+impl Weight for Share {
+    ghost of = { share_of };
+
+    ghost RIM_REFINING = { share_of (rim_rule refining) };
+
+    const RIM_REFINING: Share = Share { each: 1, all: 8 };
+
+    ghost RIM_LIMIT = { share_of (rim_rule limit) };
+
+    const RIM_LIMIT: Share = Share { each: 1, all: 6 };
+
+    fn beta(n: usize) -> Share {
+        if n == 3 {
+            Rule::<Share>::VALENCE_THREE
+        } else {
+            Share {
+                each: 3,
+                all: 8 * n as u64,
+            }
+        }
+    }
+
+    // 1/(n + 3/(8 beta)) comes to this.
+    fn loop_gamma(n: usize) -> Share {
+        if n == 3 {
+            Rule::<Share>::VALENCE_THREE_LIMIT
+        } else {
+            Share {
+                each: 1,
+                all: 2 * n as u64,
+            }
+        }
+    }
+
+    ghost rim_refining = { refl };
+
+    ghost rim_limit = { refl };
 }
 
-impl Rule {
+impl Rule<Share> {
     pub const VALENCE_THREE: Share = Share { each: 3, all: 16 };
 
     pub const VALENCE_THREE_LIMIT: Share = Share { each: 1, all: 5 };
-
-    pub const RIM_REFINING: Share = Share { each: 1, all: 8 };
-
-    pub const RIM_LIMIT: Share = Share { each: 1, all: 6 };
 
     pub const EDGE_RIM: Share = Share { each: 1, all: 2 };
 
     pub const EDGE_END: Share = Share { each: 3, all: 8 };
 
     pub const EDGE_FAR: Share = Share { each: 1, all: 8 };
-
-    fn refining(rim: bool, n: usize) -> Rule
-        requires { n ≤ most_valence }
-        ensures { result ≡ shared (rule_of refining rim n) }
-    {
-        if rim {
-            Rule::Rim(Rule::RIM_REFINING)
-        } else {
-            Rule::Ring(beta(n))
-        }
-    }
-
-    fn limit(rim: bool, n: usize) -> Rule
-        requires { n ≤ most_valence }
-        ensures { result ≡ shared (rule_of limit rim n) }
-    {
-        if rim {
-            Rule::Rim(Rule::RIM_LIMIT)
-        } else {
-            Rule::Ring(loop_gamma(n))
-        }
-    }
-
-    pub fn new(stage: Stage, rim: bool, n: usize) -> Rule
-        requires { n ≤ most_valence }
-        ensures { result ≡ shared (rule_of (staged stage) rim n) }
-    {
-        match stage {
-            Stage::Refining => Rule::refining(rim, n),
-            Stage::Limit => Rule::limit(rim, n),
-        }
-    }
 
     // What the weight is out of.
     pub fn all(self) -> u64
@@ -97,52 +92,12 @@ impl Rule {
     }
 }
 
-fn beta(n: usize) -> Share
-    requires { n ≤ most_valence }
-    ensures { result ≡ share_of (ring_rule refining n) }
-{
-    if n == 3 {
-        Rule::VALENCE_THREE
-    } else {
-        Share {
-            each: 3,
-            all: 8 * n as u64,
-        }
-    }
-}
-
-// 1/(n + 3/(8 beta)) comes to this.
-fn loop_gamma(n: usize) -> Share
-    requires { n ≤ most_valence }
-    ensures { result ≡ share_of (ring_rule limit n) }
-{
-    if n == 3 {
-        Rule::VALENCE_THREE_LIMIT
-    } else {
-        Share {
-            each: 1,
-            all: 2 * n as u64,
-        }
-    }
-}
-
 // A point of raised coordinates.
 #[derive(Clone, Copy)]
 pub struct Whole3 {
     pub x: u64,
     pub y: u64,
     pub z: u64,
-}
-
-impl Whole3 {
-    pub fn put(self, xs: &mut [i32], i: usize)
-        requires { (i + 3 ≤ length xs.old) × Raised3 self }
-        ensures { xs.new ≡ sets xs.old i (lowered self) }
-    {
-        put(xs, i, self.x);
-        put(xs, i + 1, self.y);
-        put(xs, i + 2, self.z);
-    }
 }
 
 pub fn at(xs: &[i32], v: VertNo, c: usize) -> u64
@@ -160,13 +115,11 @@ fn ring_sum(xs: &[i32], ring: &[u32]) -> Whole3
     let mut x: u64 = 0;
     let mut y: u64 = 0;
     let mut z: u64 = 0;
-    let mut i = 0usize;
-    while i < ring.len() {
-        let v = VertNo(ring[i]);
+    for u in ring {
+        let v = VertNo(*u);
         x += at(xs, v, 0);
         y += at(xs, v, 1);
         z += at(xs, v, 2);
-        i += 1usize;
     }
     Whole3 { x, y, z }
 }
@@ -215,20 +168,11 @@ fn blend3(xs: &[i32], v: VertNo, s: Whole3, k: u64, b: Share) -> Whole3
     }
 }
 
-// Vertex v by the rule of the stage, from its ring.
-pub fn vertex(xs: &[i32], v: VertNo, ring: &[u32], rim: bool, stage: Stage) -> Whole3
-    requires { Readable xs.now v.0 × ((0 < length ring.now) × AllReadable xs.now ring.now) }
-    ensures point { lowered result ≡ three whole (by_ring whole (staged stage) xs.now v.0 rim ring.now) }
-    ensures near { Raised3 result }
-{
-    Rule::new(stage, rim, ring.len()).weighted(xs, v, ring)
-}
-
 fn half(xs: &[i32], a: VertNo, b: VertNo, c: usize) -> u64
     requires { (c < 3) × (Readable xs.now a.0 × Readable xs.now b.0) }
     ensures { Stands result 1 (halfway whole xs.now a.0 b.0 c) }
 {
-    let w = Rule::EDGE_RIM;
+    let w = Rule::<Share>::EDGE_RIM;
     rounded(w.each * at(xs, a, c) + w.each * at(xs, b, c), w.all)
 }
 
@@ -237,8 +181,8 @@ fn eighths(xs: &[i32], a: VertNo, b: VertNo, d: VertNo, e: VertNo, c: usize) -> 
     requires readable { Readable xs.now d.0 × Readable xs.now e.0 }
     ensures { Stands result 1 (eighthway whole xs.now a.0 b.0 d.0 e.0 c) }
 {
-    let end = Rule::EDGE_END;
-    let far = Rule::EDGE_FAR;
+    let end = Rule::<Share>::EDGE_END;
+    let far = Rule::<Share>::EDGE_FAR;
     let ends = end.each * at(xs, a, c) + end.each * at(xs, b, c);
     rounded(
         ends + far.each * at(xs, d, c) + far.each * at(xs, e, c),
@@ -246,33 +190,46 @@ fn eighths(xs: &[i32], a: VertNo, b: VertNo, d: VertNo, e: VertNo, c: usize) -> 
     )
 }
 
-// The new vertex of a rim edge, between a and b.
-pub fn edge_rim(xs: &[i32], a: VertNo, b: VertNo) -> Whole3
-    requires { Readable xs.now a.0 × Readable xs.now b.0 }
-    ensures point { lowered result ≡ three whole (on_rim whole xs.now a.0 b.0) }
-    ensures near { Raised3 result }
-{
-    let lo = lower(a, b);
-    let hi = higher(a, b);
-    Whole3 {
-        x: half(xs, lo, hi, 0),
-        y: half(xs, lo, hi, 1),
-        z: half(xs, lo, hi, 2),
-    }
-}
+impl Weighed for i32 {
+    type Point = Whole3;
 
-// The new vertex of an inner edge, between a and b; d is the far corner of the first face, e of the other.
-pub fn edge_inner(xs: &[i32], a: VertNo, b: VertNo, d: VertNo, e: VertNo) -> Whole3
-    requires readable { Readable xs.now a.0 × Readable xs.now b.0 }
-    requires readable_2 { Readable xs.now d.0 × Readable xs.now e.0 }
-    ensures point { lowered result ≡ three whole (within whole xs.now a.0 b.0 d.0 e.0) }
-    ensures near { Raised3 result }
-{
-    let lo = lower(a, b);
-    let hi = higher(a, b);
-    Whole3 {
-        x: eighths(xs, lo, hi, d, e, 0),
-        y: eighths(xs, lo, hi, d, e, 1),
-        z: eighths(xs, lo, hi, d, e, 2),
+    ghost listed = { lowered };
+
+    ghost Raised = { Raised3 };
+
+    ghost Readable = { Readable };
+
+    ghost AllNear = { AllNear };
+
+    fn vertex(xs: &[i32], v: VertNo, ring: &[u32], rim: bool, stage: Stage) -> Whole3 {
+        Rule::<Share>::new(stage, rim, ring.len()).weighted(xs, v, ring)
     }
+
+    fn edge_rim(xs: &[i32], a: VertNo, b: VertNo) -> Whole3 {
+        let lo = lower(a, b);
+        let hi = higher(a, b);
+        Whole3 {
+            x: half(xs, lo, hi, 0),
+            y: half(xs, lo, hi, 1),
+            z: half(xs, lo, hi, 2),
+        }
+    }
+
+    fn edge_inner(xs: &[i32], a: VertNo, b: VertNo, d: VertNo, e: VertNo) -> Whole3 {
+        let lo = lower(a, b);
+        let hi = higher(a, b);
+        Whole3 {
+            x: eighths(xs, lo, hi, d, e, 0),
+            y: eighths(xs, lo, hi, d, e, 1),
+            z: eighths(xs, lo, hi, d, e, 2),
+        }
+    }
+
+    fn put(p: Whole3, xs: &mut [i32], i: usize) {
+        put(xs, i, p.x);
+        put(xs, i + 1, p.y);
+        put(xs, i + 2, p.z);
+    }
+
+    ghost readable = { λ xs v room near. record { room = room; near = λ c _. near.at (3 * v + c) } };
 }

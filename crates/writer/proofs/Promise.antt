@@ -22,17 +22,17 @@ use Rattle.rules.proofs.Checks.{or-none}
 use Rattle.rules.proofs.Ends.{Never, never-or, never-check, mesh-never-eleven}
 use Rattle.rules.specs.Calls.{Lent}
 use Rattle.writer.specs.Writing.{write_refusal, written_or, written_of, bytes_left, WriteCall, written_answer, WriteTold}
-use Rattle.writer.specs.declared.Written.{Written}
-use Rattle.writer.specs.declared.Written.TheVariants as written
+use Rattle.std.specs.Prelude.{Result}
+use Rattle.std.specs.Prelude.{Ok, Err}
 use Rattle.writer.proofs.Lists.{Bytes}
 use Rattle.writer.proofs.Trips.{good-back, levels-back, indices-back, coords-back, cut-as-lists, write-back}
 
 -- ---- what an answer of a length says
 
-pub unlike : {r : Refusal} {n : ℕ} → written.Refused r ≡ written.Bytes n → ⊥
+pub unlike : {r : Refusal} {n : ℕ} → Err r ≡ Ok n → ⊥
 unlike {r} {n} e = let z : ◌≡◌ {A = ℕ} 0 1 = cc in omega arith
 
-none_of : (a : Option Refusal) (k n : ℕ) → written_or a k ≡ written.Bytes n → (a ≡ none) × (k ≡ n)
+none_of : (a : Option Refusal) (k n : ℕ) → written_or a k ≡ Ok n → (a ≡ none) × (k ≡ n)
 none_of none k n e = (refl, cc)
 none_of (some r) k n e = absurd (unlike e)
 
@@ -48,7 +48,7 @@ pub record Wrote (room l : ℕ) (fs : List ℕ) (xs : List ℤ) (n : ℕ) : Type
   pub long : length (sheet_bytes l fs xs) ≡ n
   pub fits : n ≤ room
 
-pub wrote : (room l : ℕ) (fs : List ℕ) (xs : List ℤ) (n : ℕ) → written_of room l fs xs ≡ written.Bytes n → Wrote room l fs xs n
+pub wrote : (room l : ℕ) (fs : List ℕ) (xs : List ℤ) (n : ℕ) → written_of room l fs xs ≡ Ok n → Wrote room l fs xs n
 unfolding written_of write_refusal
 wrote room l fs xs n e =
     let k = length (sheet_bytes l fs xs) in
@@ -59,23 +59,23 @@ wrote room l fs xs n e =
 -- ---- two outcomes that are allowed are one
 
 module _ (l : ℕ) (fs : List ℕ) (xs : List ℤ) (bs cs : Lent (List ℕ)) (e : bs.old ≡ cs.old) where
-  pub one-outcome : (r q : Written) → WriteCall l fs xs bs r → WriteCall l fs xs cs q → (r ≡ q) × (bs.new ≡ cs.new)
+  pub one-outcome : (r q : Result ℕ Refusal) → WriteCall l fs xs bs r → WriteCall l fs xs cs q → (r ≡ q) × (bs.new ≡ cs.new)
   one-outcome r q c d =
       let a : r ≡ q = c.answer ∙ ap (λ (b : List ℕ). written_of (length b) l fs xs) e ∙ sym d.answer in
-      (a, c.bytes ∙ ap (λ (w : Written). bytes_left w (sheet_bytes l fs xs) bs.old) a ∙ ap (bytes_left q (sheet_bytes l fs xs)) e ∙ sym d.bytes)
+      (a, c.bytes ∙ ap (λ (w : Result ℕ Refusal). bytes_left w (sheet_bytes l fs xs) bs.old) a ∙ ap (bytes_left q (sheet_bytes l fs xs)) e ∙ sym d.bytes)
 
   pub one-outcome-told : (told also : List ℕ) → WriteTold l fs xs bs told → WriteTold l fs xs cs also → (told ≡ also) × (bs.new ≡ cs.new)
   one-outcome-told told also c d =
       let o = one-outcome c.answer d.answer c.kept d.kept in
-      (c.three ∙ ap (λ (w : Written). written_answer w) o.0 ∙ sym d.three, o.1)
+      (c.three ∙ ap (λ (w : Result ℕ Refusal). written_answer w) o.0 ∙ sym d.three, o.1)
 
 -- ---- what a call leaves
 
 module _ (l : ℕ) (fs : List ℕ) (xs : List ℤ) (bs : Lent (List ℕ)) where
-  pub refused-writes-nothing : (r : Refusal) → WriteCall l fs xs bs (written.Refused r) → bs.new ≡ bs.old
+  pub refused-writes-nothing : (r : Refusal) → WriteCall l fs xs bs (Err r) → bs.new ≡ bs.old
   refused-writes-nothing r c = c.bytes
 
-  module _ (n : ℕ) (c : WriteCall l fs xs bs (written.Bytes n)) where
+  module _ (n : ℕ) (c : WriteCall l fs xs bs (Ok n)) where
     w : Wrote (length bs.old) l fs xs n
     w = wrote (length bs.old) l fs xs n (sym c.answer)
 
@@ -97,7 +97,7 @@ module _ (l : ℕ) (fs : List ℕ) (xs : List ℤ) (bs : Lent (List ℕ)) where
     cut-alike rooms = ap (sheet_outcome rooms) sheet-in-front ∙ cut-as-lists l fs xs w.passed rooms
 
 -- "writing what was read, where not refused, gives the same bytes"
-pub same_bytes : (b : List ℕ) → Bytes b → bad_sheet b ≡ false → (bs : Lent (List ℕ)) (n : ℕ) → WriteCall (sheet_levels b) (sheet_indices b) (sheet_coords b) bs (written.Bytes n) → take n bs.new ≡ b
+pub same_bytes : (b : List ℕ) → Bytes b → bad_sheet b ≡ false → (bs : Lent (List ℕ)) (n : ℕ) → WriteCall (sheet_levels b) (sheet_indices b) (sheet_coords b) bs (Ok n) → take n bs.new ≡ b
 same_bytes b h good bs n c = sheet-in-front (sheet_levels b) (sheet_indices b) (sheet_coords b) bs n c ∙ write-back b h good
 
 -- ---- [8]: "No number is used again"
@@ -117,4 +117,4 @@ written-never-eleven room l fs xs =
 pub never-eleven : (l : ℕ) (fs : List ℕ) (xs : List ℤ) (bs : Lent (List ℕ)) (told : List ℕ) → WriteTold l fs xs bs told → get_or told 0 0 ≢ 11
 never-eleven l fs xs bs told t e =
     written-never-eleven (length bs.old) l fs xs
-    (ap (λ (w : Written). get_or (written_answer w) 0 0) (sym t.kept.answer) ∙ ap (λ (x : List ℕ). get_or x 0 0) (sym t.three) ∙ e)
+    (ap (λ (w : Result ℕ Refusal). get_or (written_answer w) 0 0) (sym t.kept.answer) ∙ ap (λ (x : List ℕ). get_or x 0 0) (sym t.three) ∙ e)

@@ -1,44 +1,16 @@
 -- Stores of numbers as bytes, one after the other.
 use Rattle.rules.specs.Sheets.{bytes_of, unsigned, sheet_bytes}
-use Prim.Native.Nat.{ℕ, suc, ◌+◌, ◌-◌, ◌*◌, ◌/◌, ◌%◌, ◌≤◌, ◌<◌}
+use Prim.Native.Nat.{ℕ, ◌+◌, ◌*◌, ◌/◌, ◌≤◌, ◌<◌}
 use mathlib.Core.Path.{◌≡◌, refl, sym, ap, ◌∙◌}
 use mathlib.Core.List.{List, [], ◌∷◌, ◌++◌, map, append_assoc}
 use native.Mathlib.Omega.{arith}
 use native.Mathlib.Numerals.{add-one}
-use lib.IntN.{ℤ, pos, negsuc, ◌+ℤ◌}
-use lib.Signed.{mag}
+use lib.IntN.{ℤ}
 use lib.ListN.{length, get_or, take, length-map, length-append}
 use lib.Seq.{sets, take-suc, length-take-le, take_all}
-use borrow.Author.Tests.{le-ltb}
-use mir.Syntax.{w32, w64}
-use mir.Val.{SFits}
 use Rattle.lists.specs.Lists.{gather}
 use Rattle.lists.proofs.Places.{length-gather, get_d_map}
 use Rattle.lists.proofs.Stores.{sets-gather, sets-next}
-
--- ---- the signed number as the unsigned one that has its bits
-
-abbrev pub raised : ℤ → ℕ
-raised (pos n) = n + 4294967296
-raised (negsuc n) = 4294967296 - suc n
-
-small : (z : ℤ) → SFits w32 z → mag z < 2147483648
-small z h = h.sfits
-
-pub wide-64 : (z : ℤ) → SFits w32 z → SFits w64 z
-wide-64 z h = record { sfits = omega (arith, small z h) }
-
-pub raised-add : (z : ℤ) → SFits w32 z → z +ℤ pos 4294967296 ≡ pos (raised z)
-raised-add (pos n) h = refl
-raised-add (negsuc n) h = rw (le-ltb 4294967296 (suc n) (omega (arith, small (negsuc n) h)))
-
-pub raised_lt : (z : ℤ) → SFits w32 z → raised z < 6442450944
-raised_lt (pos n) h = omega (arith, small (pos n) h)
-raised_lt (negsuc n) h = omega arith
-
-pub raised_is : (z : ℤ) → SFits w32 z → raised z % 4294967296 ≡ unsigned z
-raised_is (pos n) h = omega (arith, small (pos n) h)
-raised_is (negsuc n) h = omega (arith, small (negsuc n) h)
 
 -- ---- one number more
 
@@ -52,14 +24,12 @@ put-more ws l at k h =
 pub put_last : (ws l : List ℕ) (at k : ℕ) → length ws ≤ k → sets l at (gather bytes_of (take k ws)) ≡ sets l at (gather bytes_of ws)
 put_last ws l at k h = ap (λ (v : List ℕ). sets l at (gather bytes_of v)) (take_all k ws h)
 
-pub coord-more : (xs : List ℤ) (l : List ℕ) (at k : ℕ) → k < length xs
-    → sets (sets l at (gather bytes_of (take k (map unsigned xs)))) (at + 4 * k) (bytes_of (unsigned (get_or xs k (pos 0)))) ≡ sets l at (gather bytes_of (take (k + 1) (map unsigned xs)))
-coord-more xs l at k h =
-    ap (λ (w : ℕ). sets (sets l at (gather bytes_of (take k (map unsigned xs)))) (at + 4 * k) (bytes_of w)) (sym (get_d_map unsigned xs k (pos 0) 0 h))
-    ∙ put-more (map unsigned xs) l at k (rw (length-map xs unsigned) h)
-
-pub coord-last : (xs : List ℤ) (l : List ℕ) (at k : ℕ) → length xs ≤ k → sets l at (gather bytes_of (take k (map unsigned xs))) ≡ sets l at (gather bytes_of (map unsigned xs))
-coord-last xs l at k h = put_last (map unsigned xs) l at k (rw (length-map xs unsigned) h)
+-- the same of numbers that are no words yet
+module _ {A : Type 0} (f : A → ℕ) (d : A) (xs : List A) (l : List ℕ) (at k : ℕ) where
+  pub number-more : k < length xs → sets (sets l at (gather bytes_of (take k (map f xs)))) (at + 4 * k) (bytes_of (f (get_or xs k d))) ≡ sets l at (gather bytes_of (take (k + 1) (map f xs)))
+  number-more h =
+      ap (λ (w : ℕ). sets (sets l at (gather bytes_of (take k (map f xs)))) (at + 4 * k) (bytes_of w)) (sym (get_d_map f xs k d 0 h))
+      ∙ put-more (map f xs) l at k (rw (length-map xs f) h)
 
 -- ---- the three stores of a sheet
 

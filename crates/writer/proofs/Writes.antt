@@ -1,4 +1,5 @@
 -- What the writer answers, stage by stage.
+use Rattle.std.specs.Prelude.{Err}
 use Prim.Native.Nat.{ℕ, ◌+◌, ◌*◌, ◌/◌, ◌≤◌, ◌<◌}
 use mathlib.Core.Path.{◌≡◌, refl}
 use mathlib.Core.List.{List}
@@ -14,9 +15,8 @@ use Rattle.rules.specs.Sheets.{sheet_bytes}
 use Rattle.rules.specs.declared.Refusal.{Refusal}
 use Rattle.rules.proofs.Checks.{Shape, shape_of, or-none}
 use Rattle.limits.specs.Verdicts.{verdict_of}
-use Rattle.limits.specs.declared.Check.TheVariants.{No}
 use Rattle.writer.specs.Writing.{write_refusal, written_or, written_of}
-use Rattle.writer.specs.declared.Written.TheVariants as written
+use Rattle.std.specs.Prelude.{Ok, Err}
 use Rattle.writer.proofs.Puts.{sheet-long}
 
 -- what checks 1 to 12 leave, stage by stage
@@ -41,21 +41,21 @@ few l is cs s =
     let v : cs / 3 ≤ 4096 = s.verts in
     (omega (arith, s.indices), omega (arith, s.coords))
 
-stops : (a b : Option Refusal) (n : ℕ) (r : Refusal) → verdict_of a ≡ No r → written.Refused r ≡ written_or (a or_else b) n
+stops : (a b : Option Refusal) (n : ℕ) (r : Refusal) → verdict_of a ≡ Err r → Err r ≡ written_or (a or_else b) n
 stops none b n r e = absurd (let z : ◌≡◌ {A = ℕ} 0 1 = cc in omega arith)
 stops (some x) b n r e = cc
 
 module _ (room l : ℕ) (fs : List ℕ) (xs : List ℤ) where
-  pub write-no : (r : Refusal) → verdict_of (mesh_refusal whole l fs xs) ≡ No r → written.Refused r ≡ written_of room l fs xs
+  pub write-no : (r : Refusal) → verdict_of (mesh_refusal whole l fs xs) ≡ Err r → Err r ≡ written_of room l fs xs
   unfolding written_of write_refusal
   write-no r e =
       let n = length (sheet_bytes l fs xs) in
       stops (mesh_refusal whole l fs xs) (check 17 (when (ltb room n))) n r e
 
-  pub write-17 : mesh_refusal whole l fs xs ≡ none → room < 4 * length xs + 4 * length fs + 20 → written.Refused (record { number = 17; place = 0 }) ≡ written_of room l fs xs
+  pub write-17 : mesh_refusal whole l fs xs ≡ none → room < 4 * length xs + 4 * length fs + 20 → Err (record { number = 17; place = 0 }) ≡ written_of room l fs xs
   unfolding written_of write_refusal
   write-17 e h = rw (e, sheet-long l fs xs, lt-ltb _ _ h) refl
 
-  pub write_done : mesh_refusal whole l fs xs ≡ none → 4 * length xs + 4 * length fs + 20 ≤ room → written.Bytes (4 * length xs + 4 * length fs + 20) ≡ written_of room l fs xs
+  pub write_done : mesh_refusal whole l fs xs ≡ none → 4 * length xs + 4 * length fs + 20 ≤ room → Ok (4 * length xs + 4 * length fs + 20) ≡ written_of room l fs xs
   unfolding written_of write_refusal
   write_done e h = rw (e, sheet-long l fs xs, le-ltb _ _ h) refl

@@ -7,32 +7,21 @@ ghost use Rattle.lists.specs.Lists.{gather};
 ghost use Rattle.rules.specs.Position.{whole};
 ghost use Rattle.rules.specs.Refusals.{mesh_refusal};
 ghost use Rattle.rules.specs.Sheets.{bytes_of, sheet_bytes};
-ghost use Rattle.rules.specs.Sheets.{unsigned as unsigned_of};
 ghost use Rattle.limits.specs.Verdicts.{verdict_of};
 ghost use Rattle.rules.specs.Calls.{given, lent};
 ghost use Rattle.writer.specs.Writing.{WriteCall};
 
 use limits::Check;
+use reader::Number;
 use rules::{Outcome, Refusal};
-
-#[derive(Clone, Copy)]
-pub enum Written {
-    // so many bytes stand at the front of the buffer
-    Bytes(u32),
-    Refused(Refusal),
-}
 
 // 1 to 12. Where no level is made check 13 asks for nothing, so the whole judgement at level 0 does.
 fn checked_whole(levels: u32, indices: &[u32], coords: &[i32]) -> Check
     ensures { result ≡ verdict_of (mesh_refusal whole levels indices.now coords.now) }
 {
-    match limits::shape(levels, indices.len(), coords.len()) {
-        Check::No(x) => Check::No(x),
-        Check::Pass => match cage::judge_whole(0, indices, coords) {
-            Outcome::Refused(x) => Check::No(x),
-            Outcome::Success(_) => Check::Pass,
-        },
-    }
+    limits::shape(levels, indices.len(), coords.len())?;
+    cage::judge(0, indices, coords)?;
+    Ok(())
 }
 
 // Little endian.
@@ -40,38 +29,15 @@ fn put_word(bytes: &mut [u8], at: usize, w: u32)
     requires { at + 4 ≤ length bytes.old }
     ensures { bytes.new ≡ sets bytes.old at (bytes_of w) }
 {
-    bytes[at] = (w % 256) as u8;
-    bytes[at + 1] = (w / 256 % 256) as u8;
-    bytes[at + 2] = (w / 65536 % 256) as u8;
-    bytes[at + 3] = (w / 16777216 % 256) as u8;
+    bytes[at..at + 4].copy_from_slice(&w.to_le_bytes());
 }
 
-// The number whose bits the signed one has.
-fn unsigned(x: i32) -> u32
-    ensures { result ≡ unsigned_of x }
+fn put_numbers<N: Number>(bytes: &mut [u8], at: usize, xs: &[N])
+    requires { at + 4 * length xs.now ≤ length bytes.old }
+    ensures { bytes.new ≡ sets bytes.old at (gather bytes_of (map N.word xs.now)) }
 {
-    ((x as i64 + 4294967296) as u64 % 4294967296) as u32
-}
-
-fn put_words(bytes: &mut [u8], at: usize, w: &[u32])
-    requires { at + 4 * length w.now ≤ length bytes.old }
-    ensures { bytes.new ≡ sets bytes.old at (gather bytes_of w.now) }
-{
-    let mut k = 0;
-    while k < w.len() {
-        put_word(bytes, at + 4 * k, w[k]);
-        k = k + 1;
-    }
-}
-
-fn put_coords(bytes: &mut [u8], at: usize, x: &[i32])
-    requires { at + 4 * length x.now ≤ length bytes.old }
-    ensures { bytes.new ≡ sets bytes.old at (gather bytes_of (map unsigned_of x.now)) }
-{
-    let mut k = 0;
-    while k < x.len() {
-        put_word(bytes, at + 4 * k, unsigned(x[k]));
-        k = k + 1;
+    for (k, x) in xs.iter().enumerate() {
+        put_word(bytes, at + 4 * k, x.word());
     }
 }
 
@@ -81,7 +47,7 @@ fn put_trailer(bytes: &mut [u8], at: usize, v: u32, f: u32, levels: u32)
     ensures { bytes.new ≡ sets bytes.old at (gather bytes_of (0 ∷ v ∷ 12 * v ∷ f ∷ levels ∷ [])) }
 {
     let t = [0, v, 12 * v, f, levels];
-    put_words(bytes, at, &t);
+    put_numbers(bytes, at, &t);
 }
 
 // The blocks and the trailer, of lists that fit.
@@ -91,8 +57,8 @@ fn put_sheet(levels: u32, indices: &[u32], coords: &[i32], bytes: &mut [u8])
 {
     let a = 4 * coords.len();
     let b = a + 4 * indices.len();
-    put_coords(bytes, 0, coords);
-    put_words(bytes, a, indices);
+    put_numbers(bytes, 0, coords);
+    put_numbers(bytes, a, indices);
     put_trailer(
         bytes,
         b,
@@ -102,22 +68,23 @@ fn put_sheet(levels: u32, indices: &[u32], coords: &[i32], bytes: &mut [u8])
     );
 }
 
-// A sheet at the front of the lent bytes, or the refusal: 1 to 12, then 17 where the buffer is short.
-pub fn write_sheet(levels: u32, indices: &[u32], coords: &[i32], bytes: &mut [u8]) -> Written
+// A sheet at the front of the lent bytes, so many bytes long; or the refusal: 1 to 12, then 17 where the buffer is short.
+pub fn write_sheet(
+    levels: u32,
+    indices: &[u32],
+    coords: &[i32],
+    bytes: &mut [u8],
+) -> Result<u32, Refusal>
     ensures { WriteCall levels (given indices) (given coords) (lent bytes) result }
 {
-    match checked_whole(levels, indices, coords) {
-        Check::No(x) => Written::Refused(x),
-        Check::Pass => {
-            let n = 4 * coords.len() + 4 * indices.len() + 20;
-            if bytes.len() < n {
-                return Written::Refused(Refusal {
-                    number: 17,
-                    place: 0,
-                });
-            }
-            put_sheet(levels, indices, coords, bytes);
-            Written::Bytes(n as u32)
-        }
+    checked_whole(levels, indices, coords)?;
+    let n = 4 * coords.len() + 4 * indices.len() + 20;
+    if bytes.len() < n {
+        return Err(Refusal {
+            number: 17,
+            place: 0,
+        });
     }
+    put_sheet(levels, indices, coords, bytes);
+    Ok(n as u32)
 }

@@ -1,5 +1,4 @@
 use Rattle.alphabet.proofs.Parts.{one_of}
-use borrow.Author.Rules.{rules}
 use Rattle.alphabet.proofs.one.Goals as goal
 
 pub returns : goal.returns

@@ -1,8 +1,6 @@
-use mathlib.Core.Path.{◌≡◌, sym, ◌∙◌}
+use mathlib.Core.Path.{sym, ◌∙◌}
 use native.Mathlib.Omega.{arith}
-use lib.Dec.{ltb}
 use Rattle.alphabet.proofs.Lengths.{too_many, not_equal, slots-left}
-use borrow.Author.Rules.{rules}
 use Rattle.alphabet.proofs.refused.Goals as goal
 
 pub returns-then-lengths-gt64 : goal.returns-then-lengths-gt64

@@ -1,7 +1,6 @@
 use mathlib.Core.Path.{refl, sym, ◌∙◌}
 use lib.ListN.{length}
 use Rattle.alphabet.proofs.Lengths.{fine, nineteen, done_all}
-use borrow.Author.Rules.{rules}
 use Rattle.alphabet.proofs.subdivide_sheets.Goals as goal
 
 pub returns-then-refused : goal.returns-then-refused

@@ -1,28 +1,18 @@
-use Prim.Native.Nat.{suc, ◌+◌}
-use mathlib.Core.Path.{◌≡◌, ap}
+use Prim.Native.Nat.{ℕ, ◌+◌, ◌≤◌}
+use mathlib.Core.Path.{◌≡◌, ◌∙◌}
+use mathlib.Core.List.{List, append_assoc}
 use native.Mathlib.Omega.{arith}
-use native.Mathlib.Numerals.{add-one}
-use lib.ListN.{length-set}
-use lib.Seq.{sets}
-use Rattle.alphabet.proofs.Going.{each}
-use borrow.Author.Rules.{rules}
+use lib.ListN.{length}
+use lib.Seq.{sets, sets-eq, drop-drop}
+use borrow.Rule.Slice.PartMut.{put_mid}
+use Rattle.rules.specs.Answers.{answer}
+use Rattle.alphabet.proofs.Going.{five}
 use Rattle.alphabet.proofs.tell.Goals as goal
 
-pub bounds-slots-at-2 : goal.bounds-slots-at-2
-bounds-slots-at-2 c = simp length-set (omega arith)
-
-pub bounds-slots-at-3 : goal.bounds-slots-at-3
-bounds-slots-at-3 c = simp length-set (omega arith)
-
-pub bounds-slots-at-4 : goal.bounds-slots-at-4
-bounds-slots-at-4 c = simp length-set (omega arith)
-
-pub bounds-slots-at-5 : goal.bounds-slots-at-5
-bounds-slots-at-5 c = simp length-set (omega arith)
+-- a part of a buffer copied over is a run of stores
+copied : (l w ys : List ℕ) (at k : ℕ) → ys ≡ w → k ≡ length w → at + length w ≤ length l → put_mid at k l ys ≡ sets l at w
+copied l w ys at k e n h = rw (e, n, drop-drop, sets-eq w l at h, append_assoc)
 
 pub returns : goal.returns
 returns c = let a = c.args in
-    let two : a.at + 2 ≡ suc (suc a.at) = omega arith in
-    let three : a.at + 3 ≡ suc (suc (suc a.at)) = omega arith in
-    let four : a.at + 4 ≡ suc (suc (suc (suc a.at))) = omega arith in
-    rw (add-one, two, three, four) (ap (sets a.slots.now a.at) (each _ a.o c.tell.ensures))
+    copied a.slots.now (answer a.o) c.copy_from_slice.new.self a.at _ (c.copy_from_slice.ensures.after ∙ c.tell.ensures) (omega (arith, five a.o)) (omega (arith, five a.o, c.requires))

@@ -1,3 +1,4 @@
+use Rattle.std.specs.Prelude.{Ok}
 use native.Mathlib.Omega.{arith}
 use Prim.Native.Nat.{ℕ, ◌+◌, ◌*◌, ◌/◌, ◌≤◌}
 use mathlib.Core.Path.{◌≡◌, sym, ap, ◌∙◌}
@@ -6,7 +7,6 @@ use Rattle.rules.specs.Mesh.{links, rims}
 use Rattle.rules.specs.Levels.{Sizes}
 use Rattle.rules.specs.Refusals.{size_refusal}
 use Rattle.rules.specs.declared.Counts.{Counts}
-use Rattle.rules.specs.declared.Outcome.TheVariants.{Success}
 use Rattle.limits.specs.Verdicts.{verdict_of}
 use Rattle.limits.specs.Sizes.{counts_after, over_of}
 use Rattle.cage.specs.Sizes.{cage_counts}
@@ -16,6 +16,7 @@ use Rattle.cage.proofs.Stages.{good_of, unless-refused, unless-last}
 use Rattle.cage.proofs.judge_size.Lts
 use Rattle.cage.proofs.judge_size.Reads
 use Rattle.cage.proofs.judge_size.Tie
+use Rattle.limits.proofs.Search.{refused}
 use Rattle.cage.proofs.judge_size.Goals as goal
 
 abbrev After-count_rims-r : Type 0
@@ -56,8 +57,8 @@ pub grown-c-requires : goal.grown-c-requires
 grown-c-requires c = let t = c.requires.sizes.2.thirds in
     (c.requires.sizes.0, c.requires.sizes.1, omega (arith, c.requires.sizes.2.few), omega (arith, few c.before), omega (arith, few c.before))
 
-pub returns-in-No : goal.returns-in-No
-returns-in-No c = unless-refused (size_refusal c.args.levels c.args.v c.args.indices.now) _ _ (verdict-is c.before.before ∙ c.in-No.is)
+pub returns-in_err-size : goal.returns-in_err-size
+returns-in_err-size c = refused _ _ _ c.from_residual.ensures.1 (unless-refused (size_refusal c.args.levels c.args.v c.args.indices.now) _ _ (verdict-is c.before.before.before.before ∙ c.in_err-size.was))
 
-pub returns-in-Pass : goal.returns-in-Pass
-returns-in-Pass c = ap Success (counts-are c.before.before.before) ∙ sym (unless-last (size_refusal c.args.levels c.args.v c.args.indices.now) _ (verdict-is c.before.before ∙ c.in-Pass.is))
+pub returns : goal.returns
+returns c = ap Ok (counts-are c.before.before.before.before) ∙ sym (unless-last (size_refusal c.args.levels c.args.v c.args.indices.now) _ (verdict-is c.before.before.before ∙ c.in_ok-size.was))

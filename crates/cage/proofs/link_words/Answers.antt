@@ -1,4 +1,3 @@
-use native.Mathlib.Omega.{arith}
 use mathlib.Core.Path.{◌≡◌, ap₂, ◌∙◌}
 use mathlib.Core.List.{List}
 use Prim.Native.Nat.{ℕ, ◌+◌}
@@ -12,11 +11,6 @@ pub chain-requires : goal.chain-requires
 chain-requires c = let fs = c.args.indices.now in
     let p = c.requires.sizes in
     record { sizes = (p.0, p.1); empty = (heads-none fs 4096, chained-none fs 12288 p.0.few) }
-
-pub put_links-requires : goal.put_links-requires
-put_links-requires c = let p = c.requires in
-    let n : length c.chain.new.heads ≡ 4096 = c.chain.auto.heads in
-    record { sizes = (p.sizes.0, rw n p.sizes.1, omega arith); chains = (c.chain.ensures.heads, c.chain.ensures.nexts); once = p.once }
 
 pub returns : goal.returns
 returns c = let fs = c.args.indices.now in

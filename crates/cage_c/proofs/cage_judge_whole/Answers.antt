@@ -3,4 +3,4 @@ use Rattle.rules.specs.Answers.{answer}
 use Rattle.cage_c.proofs.cage_judge_whole.Goals as goal
 
 pub returns : goal.returns
-returns c = c.tell.ensures ∙ ap answer c.judge_whole.ensures
+returns c = c.tell.ensures ∙ ap answer c.judge.ensures

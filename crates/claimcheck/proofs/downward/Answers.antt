@@ -2,7 +2,6 @@ use native.Mathlib.Omega.{arith}
 use mir.Syntax.{w32}
 use mir.ValLaws.{to_z_pos}
 use Rattle.claimcheck.proofs.Laws.{minus-fits}
-use borrow.Author.Rules.{rules}
 use Rattle.claimcheck.proofs.downward.Goals as goal
 
 pub overflow_sub-result : goal.overflow_sub-result

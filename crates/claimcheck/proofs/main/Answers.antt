@@ -1,8 +1,7 @@
 use mathlib.Core.Path.{sym}
 use native.Mathlib.Omega.{arith}
 use lib.Seq.{length-take-le}
-use borrow.Author.Rules.{rules}
 use Rattle.claimcheck.proofs.main.Goals as goal
 
-pub slice_bounds-write_all-end : goal.slice_bounds-write_all-end
-slice_bounds-write_all-end c = sym (length-take-le _ _ (omega (arith, c.checked-k.ensures.upper_bound, c.checked-k.auto.said)))
+pub slice_bounds-output-end : goal.slice_bounds-output-end
+slice_bounds-output-end c = sym (length-take-le _ _ (omega (arith, c.checked-k.ensures.upper_bound, c.checked-k.auto.said)))

@@ -1,7 +1,6 @@
 use native.Mathlib.Omega.{arith}
 use Rattle.listing.proofs.Laws.{put-put}
 use Rattle.claimcheck.specs.Output.{verdict_text}
-use borrow.Author.Rules.{rules}
 use Rattle.claimcheck.proofs.no_text.Goals as goal
 
 pub returns-in-Counts : goal.returns-in-Counts

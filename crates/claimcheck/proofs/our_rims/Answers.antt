@@ -1,7 +1,6 @@
 use mathlib.Core.Path.{ap, ◌∙◌}
-use Rattle.rules.specs.declared.Outcome.{Outcome}
+use Rattle.rules.specs.Outcome.{Outcome}
 use Rattle.claimcheck.specs.Output.{rims_of}
-use borrow.Author.Rules.{rules}
 use Rattle.claimcheck.proofs.our_rims.Goals as goal
 
 pub returns : goal.returns

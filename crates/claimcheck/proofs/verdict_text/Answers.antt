@@ -1,6 +1,5 @@
 use native.Mathlib.Omega.{arith}
 use Rattle.claimcheck.specs.Output.{verdict_text}
-use borrow.Author.Rules.{rules}
 use Rattle.claimcheck.proofs.verdict_text.Goals as goal
 
 pub returns-in-Yes : goal.returns-in-Yes

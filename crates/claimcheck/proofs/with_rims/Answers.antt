@@ -1,6 +1,5 @@
 use mathlib.Core.Path.{refl}
 use borrow.Author.Tests.{eq-eqb, ne_eqb}
-use borrow.Author.Rules.{rules}
 use Rattle.claimcheck.proofs.with_rims.Goals as goal
 
 pub returns-then-theirs-ours : goal.returns-then-theirs-ours

@@ -1,70 +1,64 @@
-use Prim.Native.Nat.{◌*◌, ◌≤◌}
-use mathlib.Core.Path.{◌≡◌, sym, ◌∙◌}
+use Rattle.std.specs.Prelude.{Err, Ok}
+use Prim.Native.Nat.{ℕ, ◌*◌, ◌≤◌}
+use mathlib.Core.List.{List}
+use lib.IntN.{ℤ}
+use mathlib.Core.Path.{◌≡◌, sym}
 use native.Mathlib.Omega.{arith}
-use lib.ListN.{take}
+use lib.ListN.{length, take}
+use lib.Seq.{sets}
 use Rattle.lists.proofs.Stores.{part_of}
 use Rattle.rules.specs.Position.{whole}
 use Rattle.rules.specs.Levels.{positions}
 use Rattle.rules.specs.Sheets.{cut_rooms, sheet_outcome}
-use Rattle.rules.specs.declared.Outcome.TheVariants.{Success, Refused}
 use Rattle.rules.specs.Calls.{sheet_last}
+use Rattle.rules.specs.declared.Counts.{Counts}
 use Rattle.sheet.proofs.Calls.{Done, done}
 use Rattle.cutting.specs.Output.{text_for}
 use Rattle.cutting.proofs.Laws.{within}
-use borrow.Author.Rules.{rules}
-use Rattle.cutting.proofs.plate.Lts
-use Rattle.cutting.proofs.plate.Reads
-use Rattle.cutting.proofs.plate.Tie
 use Rattle.cutting.proofs.plate.Goals as goal
 
-abbrev In-Refused : Type 0
-In-Refused = Lts.Past-After-known_told Tie.the-claims Reads.Pre Reads.Post Tie.handed_clauses
+-- what a success says: the plate stands at the front of the lent lists
+module _ (b : List ℕ) (d : Counts) (e : sheet_outcome cut_rooms b ≡ Ok d) where
+  ok : Done cut_rooms b d
+  ok = done cut_rooms b d e
 
-abbrev In-Success : Type 0
-In-Success = Lts.Past-After-known_told2 Tie.the-claims Reads.Pre Reads.Post Tie.handed_clauses
+  few : (d.vertices ≤ 512) × (d.faces ≤ 512)
+  few = within d ok.room
 
-refused : (k : In-Refused) → sheet_outcome cut_rooms k.args.bytes.now ≡ Refused k.in-Refused.r
-refused k = sym k.subdivide_by.ensures.answer ∙ k.in-Refused.is
+  positions-are : (old new : List ℤ) → new ≡ sets old 0 (positions whole (sheet_last b)) → 1536 ≤ length old → take (3 * d.vertices) new ≡ positions whole (sheet_last b)
+  positions-are old new w h = rw w (part_of (positions whole (sheet_last b)) old 0 (3 * d.vertices) ok.positions (omega (arith, few)))
 
-answered : (k : In-Success) → sheet_outcome cut_rooms k.args.bytes.now ≡ Success k.in-Success.c
-answered k = sym k.subdivide_by.ensures.answer ∙ k.in-Success.is
-
-ok : (k : In-Success) → Done cut_rooms k.args.bytes.now k.in-Success.c
-ok k = done cut_rooms _ _ (answered k)
-
-few : (k : In-Success) → (k.in-Success.c.vertices ≤ 512) × (k.in-Success.c.faces ≤ 512)
-few k = within k.in-Success.c (ok k).room
-
-positions-are : (k : In-Success) → take (3 * k.in-Success.c.vertices) k.subdivide_by.new.positions ≡ positions whole (sheet_last k.args.bytes.now)
-positions-are k =
-    let h = few k in
-    rw (k.subdivide_by.ensures.positions, k.in-Success.is) (part_of _ _ 0 _ (ok k).positions (omega arith))
-
-faces-are : (k : In-Success) → take (3 * k.in-Success.c.faces) k.subdivide_by.new.out ≡ (sheet_last k.args.bytes.now).mesh.faces
-faces-are k =
-    let h = few k in
-    rw (k.subdivide_by.ensures.indices, k.in-Success.is) (part_of _ _ 0 _ (ok k).faces (omega arith))
+  faces-are : (old new : List ℕ) → new ≡ sets old 0 (sheet_last b).mesh.faces → 1536 ≤ length old → take (3 * d.faces) new ≡ (sheet_last b).mesh.faces
+  faces-are old new w h = rw w (part_of (sheet_last b).mesh.faces old 0 (3 * d.faces) ok.faces (omega (arith, few)))
 
 pub slice_bounds-positions-end : goal.slice_bounds-positions-end
-slice_bounds-positions-end c = omega (arith, few c.before.before.before.before, c.subdivide_by.auto.positions)
+slice_bounds-positions-end g c = omega (arith, few c.args.bytes.now c.in-Ok.c (sym c.in-Ok.ensures.answer), c.subdivide_by.auto.positions)
 
 pub slice_bounds-mesh_text-end : goal.slice_bounds-mesh_text-end
-slice_bounds-mesh_text-end c = rw (positions-are c.before.before.before.before.before) (sym (ok c.before.before.before.before.before).positions)
+slice_bounds-mesh_text-end g c = let e : sheet_outcome cut_rooms c.args.bytes.now ≡ Ok c.in-Ok.c = sym c.in-Ok.ensures.answer in
+    rw (positions-are c.args.bytes.now c.in-Ok.c e _ _ c.in-Ok.ensures.positions (omega arith)) (sym (ok c.args.bytes.now c.in-Ok.c e).positions)
 
 pub slice_bounds-indices-end : goal.slice_bounds-indices-end
-slice_bounds-indices-end c = omega (arith, few c.before.before.before.before.before, c.subdivide_by.auto.out)
+slice_bounds-indices-end g c = omega (arith, few c.args.bytes.now c.in-Ok.c (sym c.in-Ok.ensures.answer), c.subdivide_by.auto.out)
 
-pub slice_bounds-mesh_text-end-in-Success : goal.slice_bounds-mesh_text-end-in-Success
-slice_bounds-mesh_text-end-in-Success c = rw (faces-are c.before.before.before.before.before.before) (sym (ok c.before.before.before.before.before.before).faces)
+pub slice_bounds-mesh_text-end-in-Ok : goal.slice_bounds-mesh_text-end-in-Ok
+slice_bounds-mesh_text-end-in-Ok g c = let e : sheet_outcome cut_rooms c.args.bytes.now ≡ Ok c.in-Ok.c = sym c.in-Ok.ensures.answer in
+    rw (faces-are c.args.bytes.now c.in-Ok.c e _ _ c.in-Ok.ensures.indices (omega arith)) (sym (ok c.args.bytes.now c.in-Ok.c e).faces)
 
 pub mesh_text-requires : goal.mesh_text-requires
-mesh_text-requires c = let h = few c.before.before.before.before.before.before in
-    record { lists = (rw (positions-are c.before.before.before.before.before.before) (omega (arith, (ok c.before.before.before.before.before.before).positions)), rw (faces-are c.before.before.before.before.before.before) (omega (arith, (ok c.before.before.before.before.before.before).faces))); room = omega arith }
+mesh_text-requires g c = let e : sheet_outcome cut_rooms c.args.bytes.now ≡ Ok c.in-Ok.c = sym c.in-Ok.ensures.answer in
+    let k = ok c.args.bytes.now c.in-Ok.c e in
+    let h = few c.args.bytes.now c.in-Ok.c e in
+    record { lists = (rw (positions-are c.args.bytes.now c.in-Ok.c e _ _ c.in-Ok.ensures.positions (omega arith)) (omega (arith, k.positions)), rw (faces-are c.args.bytes.now c.in-Ok.c e _ _ c.in-Ok.ensures.indices (omega arith)) (omega (arith, k.faces))); room = omega arith }
 
-pub returns-in-Refused : goal.returns-in-Refused
+pub returns-in-Err : goal.returns-in-Err
 unfolding text_for
-returns-in-Refused c = record { put = rw (refused c.before.before.before.before.before) c.refused_text.ensures.put; upper_bound = c.refused_text.ensures.upper_bound }
+returns-in-Err g c = let e : sheet_outcome cut_rooms c.args.bytes.now ≡ Err c.in-Err.r = sym c.in-Err.ensures.answer in
+    record { put = rw e c.refused_text.ensures.put; upper_bound = c.refused_text.ensures.upper_bound }
 
-pub returns-in-Success : goal.returns-in-Success
+pub returns-in-Ok : goal.returns-in-Ok
 unfolding text_for
-returns-in-Success c = record { put = rw (answered c.before.before.before.before.before.before.before.before.before) (rw (positions-are c.before.before.before.before.before.before.before.before.before, faces-are c.before.before.before.before.before.before.before.before.before) at c.mesh_text.ensures.put); upper_bound = c.mesh_text.ensures.upper_bound }
+returns-in-Ok g c = let e : sheet_outcome cut_rooms c.args.bytes.now ≡ Ok c.in-Ok.c = sym c.in-Ok.ensures.answer in
+    let p = positions-are c.args.bytes.now c.in-Ok.c e _ _ c.in-Ok.ensures.positions (omega arith) in
+    let f = faces-are c.args.bytes.now c.in-Ok.c e _ _ c.in-Ok.ensures.indices (omega arith) in
+    record { put = rw e (rw (p, f) at c.mesh_text.ensures.put); upper_bound = c.mesh_text.ensures.upper_bound }

@@ -4,7 +4,6 @@ use lib.ListN.{length, replicate, length-replicate}
 use native.Mathlib.Omega.{arith}
 use lib.Seq.{length-take-le}
 use Rattle.fontcut.proofs.Along.{as_long}
-use borrow.Author.Rules.{rules}
 use Rattle.fontcut.proofs.main.Lts
 use Rattle.fontcut.proofs.main.Reads
 use Rattle.fontcut.proofs.main.Tie
@@ -29,5 +28,5 @@ cut-k-requires c = room-is 549120 0
 pub slice_bounds-text-end : goal.slice_bounds-text-end
 slice_bounds-text-end c = text-fits c.before
 
-pub slice_bounds-write_all-end : goal.slice_bounds-write_all-end
-slice_bounds-write_all-end c = sym (length-take-le _ _ (text-fits c.before.before))
+pub slice_bounds-output-end : goal.slice_bounds-output-end
+slice_bounds-output-end c = sym (length-take-le _ _ (text-fits c.before.before))

@@ -1,5 +1,4 @@
 use Rattle.fontcut.proofs.Along.{slot-refused, slot-mesh}
-use borrow.Author.Rules.{rules}
 use Rattle.fontcut.proofs.slot.Goals as goal
 
 pub returns-then-number-ne0 : goal.returns-then-number-ne0

@@ -1,8 +1,8 @@
-use Prim.Native.Nat.{◌+◌, ◌-◌, ◌*◌, ◌≤◌, ◌<◌}
+use Prim.Native.Nat.{◌+◌, ◌*◌, ◌≤◌, ◌<◌}
 use mathlib.Core.Path.{◌≡◌}
 use native.Mathlib.Omega.{arith}
 use lib.ListN.{length, get_or}
-use Rattle.fontcut.proofs.Along.{Along, along-first, along-more, along-last, along-long, there, text-fits, asks, step_fits}
+use Rattle.fontcut.proofs.Along.{along-first, along-more, along-last, along-long, there, text-fits, asks, step_fits}
 use Rattle.fontcut.proofs.slots.Lts
 use Rattle.fontcut.proofs.slots.Reads
 use Rattle.fontcut.proofs.slots.Tie

@@ -1,11 +1,11 @@
 use Prim.Native.Nat.{◌<◌}
 use mathlib.Core.Path.{◌≡◌, refl, sym, ◌∙◌}
 use mathlib.Core.Bool.{true}
-use lib.ListN.{length, length-set}
+use lib.ListN.{length}
 use Rattle.lists.proofs.Stores.{kept_same, kept-count}
 use Rattle.rules.specs.Mesh.{first_met, firsts}
 use Rattle.faces.specs.Words.{links_in}
-use Rattle.levels.proofs.Starts.{start_of, met-word, met-room, met-more, starts-all}
+use Rattle.levels.proofs.Starts.{start_of, met-word, met-room, met-more}
 use native.Mathlib.Omega.{arith}
 use Rattle.levels.proofs.new_starts.Lts
 use Rattle.levels.proofs.new_starts.Reads
@@ -24,7 +24,7 @@ test c =
     let a = c.args in
     let l = c.loop-s in
     let r = c.requires in
-    c.first_met.ensures ∙ met-word a.words.now a.links a.to a.sides l.s r.room.0 r.apart (omega arith) l.words l.invariant.1.1.1
+    c.first_met.ensures ∙ met-word a.words.now a.links a.to a.sides l.s r.room.0 r.apart (omega arith) l.words l.invariant.1
 
 fits : (c : Then-first_met) → c.loop-s.k < length (firsts (links_in c.args.words.now c.args.links c.args.sides))
 fits c =
@@ -32,13 +32,7 @@ fits c =
     let l = c.loop-s in
     let r = c.requires in
     let h = met-room a.words.now a.links a.to a.sides l.s r.room.0 r.apart (omega arith) (sym (test c.before) ∙ c.if-first_met.true) in
-    omega (arith, l.invariant.1.1.0)
-
-pub loop-s-init : goal.loop-s-init
-loop-s-init c = (omega arith, (refl, (refl, refl)))
-
-pub overflow_cast-words : goal.overflow_cast-words
-overflow_cast-words c = omega (arith, c.in_fourth.ensures, c.requires)
+    omega (arith, l.invariant.0)
 
 pub overflow_add-words : goal.overflow_add-words
 overflow_add-words c = omega (arith, fits c.before, c.requires.room.1)
@@ -62,21 +56,10 @@ loop-s-preserved c = let a = c.args in
     elim c.if-first_met.branch [
       | then-first_met came ↦ (
           let t : p l.s ≡ true = sym (test c.before) ∙ came.if-first_met.true in (
-            omega arith,
-            (
-              rw came.words-is (simp length-set l.invariant.1.0),
-              (
-                came.k-is ∙ omega (arith, l.invariant.1.1.0, kept-count start_of 1 (λ _. refl) p w a.to a.sides l.s h t),
-                came.words-is ∙ rw came.in_fourth.ensures (met-more w a.links a.to a.sides l.s r.room.0 r.apart h l.words l.k l.invariant.1.1.1 l.invariant.1.1.0 t),
-              ),
-            ),
+            came.k-is ∙ omega (arith, l.invariant.0, kept-count start_of 1 (λ _. refl) p w a.to a.sides l.s h t),
+            came.words-is ∙ rw came.in_fourth.ensures (met-more w a.links a.to a.sides l.s r.room.0 r.apart h l.words l.k l.invariant.1 l.invariant.0 t),
           ))
       | else-first_met came ↦ (
           let e = kept_same start_of 1 (λ _. refl) p w a.to a.sides l.s h (sym (test c.before) ∙ came.if-first_met.false) in
-          (omega arith, (rw came.words-is l.invariant.1.0, rw e (came.k-is ∙ l.invariant.1.1.0, came.words-is ∙ l.invariant.1.1.1))))
+          rw e (came.k-is ∙ l.invariant.0, came.words-is ∙ l.invariant.1))
     ]
-
-pub returns : goal.returns
-returns c = let a = c.args in
-    let e : c.loop-s.s ≡ a.sides = omega arith in
-    c.loop-s.invariant.1.1.1 ∙ rw e (starts-all a.words.now a.links a.to a.sides c.requires.room.0)

@@ -1,4 +1,3 @@
-use Prim.Native.Nat.{◌-◌, ◌≤◌}
 use mathlib.Core.Path.{◌≡◌}
 use lib.ListN.{length}
 use lib.Seq.{sets}
@@ -9,7 +8,4 @@ use Rattle.levels.proofs.Starts.{start_of}
 use Rattle.levels.proofs.new_starts.Given as goal
 
 abbrev pub invariant-loop-s : goal.invariant-loop-s
-invariant-loop-s l = (l.s ≤ l.sides) × ((length l.words ≡ length l.initial.words) × ((l.k ≡ length (keep (first_met (links_in l.initial.words l.links l.sides)) (count 0 l.s))) × (l.words ≡ sets l.initial.words l.to (gather start_of (keep (first_met (links_in l.initial.words l.links l.sides)) (count 0 l.s))))))
-
-abbrev pub decreases-loop-s : goal.decreases-loop-s
-decreases-loop-s l = l.sides - l.s
+invariant-loop-s l = (l.k ≡ length (keep (first_met (links_in l.initial.words l.links l.sides)) (count 0 l.s))) × (l.words ≡ sets l.initial.words l.to (gather start_of (keep (first_met (links_in l.initial.words l.links l.sides)) (count 0 l.s))))

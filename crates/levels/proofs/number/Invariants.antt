@@ -1,7 +1,5 @@
-use Prim.Native.Nat.{◌-◌, ◌≤◌}
 use mathlib.Core.Path.{◌≡◌}
 use mathlib.Core.List.{map}
-use lib.ListN.{length}
 use lib.Seq.{sets}
 use Rattle.lists.specs.Lists.{count, tally}
 use Rattle.rules.specs.Mesh.{first_met, middle}
@@ -9,7 +7,4 @@ use Rattle.faces.specs.Words.{links_in}
 use Rattle.levels.proofs.number.Given as goal
 
 abbrev pub invariant-loop-s : goal.invariant-loop-s
-invariant-loop-s l = (l.s ≤ l.sides) × ((length l.words ≡ length l.initial.words) × ((l.k ≡ tally (first_met (links_in l.initial.words l.links l.sides)) (count 0 l.s)) × (l.words ≡ sets l.initial.words l.mids (map (middle l.v (links_in l.initial.words l.links l.sides)) (count 0 l.s)))))
-
-abbrev pub decreases-loop-s : goal.decreases-loop-s
-decreases-loop-s l = l.sides - l.s
+invariant-loop-s l = (l.k ≡ tally (first_met (links_in l.initial.words l.links l.sides)) (count 0 l.s)) × (l.words ≡ sets l.initial.words l.mids (map (middle l.v (links_in l.initial.words l.links l.sides)) (count 0 l.s)))

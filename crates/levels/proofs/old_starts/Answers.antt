@@ -1,7 +1,6 @@
 use Prim.Native.Nat.{◌+◌, ◌<◌}
-use mathlib.Core.Path.{◌≡◌, refl, ◌∙◌}
-use lib.ListN.{get_or, length-set}
-use lib.Seq.{take_all}
+use mathlib.Core.Path.{◌≡◌, refl}
+use lib.ListN.{get_or}
 use Rattle.lists.specs.Lists.{part}
 use Rattle.lists.proofs.Stores.{length_part}
 use Rattle.levels.proofs.Starts.{start_word, start-more}
@@ -22,16 +21,7 @@ small c =
     let h : l.u < a.v = omega arith in
     let e = start_word a.words.now a.starts a.to a.v l.u r.room.0 r.apart h in
     let b = r.small.1 l.u (omega (arith, length_part a.words.now a.starts a.v r.room.0)) in
-    rw (l.invariant.1.1, e) (refl, b)
-
-pub loop-u-init : goal.loop-u-init
-loop-u-init c = (omega arith, (refl, refl))
-
-pub overflow_cast-s : goal.overflow_cast-s
-overflow_cast-s c = omega (arith, (small c.before.before).1)
-
-pub restarted-requires : goal.restarted-requires
-restarted-requires c = omega (arith, (small c.before.before).1)
+    rw (l.invariant, e) (refl, b)
 
 pub overflow_cast-words : goal.overflow_cast-words
 overflow_cast-words c = omega (arith, (small c.before.before).1, c.restarted.ensures)
@@ -41,9 +31,4 @@ loop-u-preserved c = let a = c.args in
     let l = c.loop-u in
     let r = c.requires in
     let e = start-more a.words.now a.starts a.to a.v l.u r.room.0 r.apart (omega arith) in
-    (omega arith, (simp length-set l.invariant.1.0, rw (c.restarted.ensures, (small c.before.before).0, l.invariant.1.1) e))
-
-pub returns : goal.returns
-returns c = let a = c.args in
-    let e : c.loop-u.u ≡ a.v = omega arith in
-    c.loop-u.invariant.1.1 ∙ rw (e, take_all a.v (part a.starts a.v a.words.now) (omega (arith, length_part a.words.now a.starts a.v (omega arith))))
+    rw (c.restarted.ensures, (small c.before.before).0, l.invariant) e

@@ -1,14 +1,10 @@
-use Prim.Native.Nat.{◌-◌, ◌≤◌}
 use mathlib.Core.Path.{◌≡◌}
 use mathlib.Core.List.{map}
-use lib.ListN.{length, take}
+use lib.ListN.{take}
 use lib.Seq.{sets}
 use Rattle.lists.specs.Lists.{part}
 use Rattle.rules.specs.Mesh.{restart}
 use Rattle.levels.proofs.old_starts.Given as goal
 
 abbrev pub invariant-loop-u : goal.invariant-loop-u
-invariant-loop-u l = (l.u ≤ l.v) × ((length l.words ≡ length l.initial.words) × (l.words ≡ sets l.initial.words l.to (map restart (take l.u (part l.starts l.v l.initial.words)))))
-
-abbrev pub decreases-loop-u : goal.decreases-loop-u
-decreases-loop-u l = l.v - l.u
+invariant-loop-u l = l.words ≡ sets l.initial.words l.to (map restart (take l.u (part l.starts l.v l.initial.words)))

@@ -65,11 +65,6 @@ number-edges-requires c = let a = c.args in
     let r = c.requires in
     record { room = search rules; small = search rules; «mutual» = mutual-in a.words.now a.at a.to a.nf a.nv r }
 
-pub children-requires : goal.children-requires
-children-requires c = let a = c.args in
-    let r = c.requires in
-    let apart = apart-at a.words.now a.at a.to a.nf a.nv r in record { room = (omega (arith, r.old), (omega (arith, r.old), omega (arith, r.new))); apart = (apart a.at (3 * a.nf) a.to (12 * a.nf) (omega arith) (omega arith) (omega arith) (omega arith), apart (a.at + 6 * a.nf + a.nv) (3 * a.nf) a.to (12 * a.nf) (omega arith) (omega arith) (omega arith) (omega arith)) }
-
 pub child_links-requires : goal.child_links-requires
 child_links-requires c = let a = c.args in
     let r = c.requires in

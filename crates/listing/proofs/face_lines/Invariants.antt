@@ -9,6 +9,3 @@ use Rattle.listing.proofs.face_lines.Given as goal
 
 abbrev pub invariant-loop-f : goal.invariant-loop-f
 invariant-loop-f l = (l.f ≤ l.n) × ((length l.text ≡ length l.initial.text) × ((l.at ≤ l.from + 65 * l.f) × Put l.initial.text l.from (rows (face_line l.w) l.f) l.text l.at))
-
-abbrev pub decreases-loop-f : goal.decreases-loop-f
-decreases-loop-f l = l.n - l.f

@@ -9,6 +9,3 @@ use Rattle.listing.proofs.vertex_lines.Given as goal
 
 abbrev pub invariant-loop-v : goal.invariant-loop-v
 invariant-loop-v l = (l.v ≤ l.n) × ((length l.text ≡ length l.initial.text) × ((l.at ≤ l.from + 68 * l.v) × Put l.initial.text l.from (rows (vertex_line l.p) l.v) l.text l.at))
-
-abbrev pub decreases-loop-v : goal.decreases-loop-v
-decreases-loop-v l = l.n - l.v

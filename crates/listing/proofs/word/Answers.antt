@@ -1,21 +1,16 @@
-use borrow.Author.Rules.{rules}
-use Prim.Native.Nat.{◌-◌, ◌≤◌}
-use mathlib.Core.Path.{◌≡◌, refl, ◌∙◌}
+use Prim.Native.Nat.{ℕ, ◌+◌, ◌-◌, ◌≤◌}
+use mathlib.Core.Path.{◌≡◌, refl}
+use mathlib.Core.List.{List, append_assoc}
 use native.Mathlib.Omega.{arith}
-use lib.ListN.{length, take, length-set}
-use lib.Seq.{sets, take-length}
-use Rattle.lists.proofs.Stores.{copy_at}
+use lib.ListN.{length}
+use lib.Seq.{sets, sets-eq, drop-drop}
+use borrow.Rule.Slice.PartMut.{put_mid}
+use borrow.Author.Rules.{rules}
 use Rattle.listing.proofs.word.Goals as goal
 
-pub loop-k-init : goal.loop-k-init
-loop-k-init c = (omega arith, (refl, (refl, refl)))
-
-pub loop-k-preserved : goal.loop-k-preserved
-loop-k-preserved c = let l = c.loop-k in
-    let a = c.args in
-    (omega arith, (l.invariant.1.0, (rw length-set l.invariant.1.1.0, rw l.invariant.1.1.1 (copy_at a.text.now a.w.now a.at l.k 0 (omega arith)))))
+-- a part of a buffer copied over is a run of stores
+copied : (l w ys : List ℕ) (at k : ℕ) → ys ≡ w → k ≡ length w → at + length w ≤ length l → put_mid at k l ys ≡ sets l at w
+copied l w ys at k e n h = rw (e, n, drop-drop, sets-eq w l at h, append_assoc)
 
 pub returns : goal.returns
-returns c = let l = c.loop-k in
-    let e : l.k ≡ length c.args.w.now = omega arith in
-    record { text = l.invariant.1.1.1 ∙ rw (e, take-length); next-is = refl }
+returns c = record { text = copied _ _ _ _ _ c.copy_from_slice.ensures.after (omega arith) c.requires; next-is = refl }

@@ -1,7 +1,5 @@
 use mathlib.Core.Path.{refl, sym, ◌∙◌}
 use native.Mathlib.Omega.{arith}
-use borrow.Author.Rules.{rules}
-use borrow.Author.Tests.{not-true, not-false}
 use Rattle.obj.proofs.Lines.{Has, has_of, long-is, refused-25, refused-22, written, both-put}
 use Rattle.obj.proofs.write_obj.Lts
 use Rattle.obj.proofs.write_obj.Reads

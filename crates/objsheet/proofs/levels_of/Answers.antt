@@ -1,4 +1,3 @@
-use borrow.Author.Rules.{rules}
 use Rattle.objsheet.proofs.Laws.{no_word, word_low, word-high, word-digit}
 use Rattle.objsheet.proofs.levels_of.Goals as goal
 

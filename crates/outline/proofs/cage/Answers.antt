@@ -1,3 +1,4 @@
+use Rattle.std.specs.Prelude.{Err, Ok}
 use Prim.Native.Nat.{ℕ, ◌+◌, ◌≤◌}
 use mathlib.Core.Path.{◌≡◌, sym, ap, ◌∙◌}
 use mathlib.Core.List.{List, ◌++◌}
@@ -10,8 +11,7 @@ use Rattle.rules.specs.Position.{whole}
 use Rattle.rules.specs.Levels.{last, positions}
 use Rattle.rules.specs.Answers.{written}
 use Rattle.rules.specs.Sheets.{cut_rooms}
-use Rattle.rules.specs.declared.Outcome.{Outcome}
-use Rattle.rules.specs.declared.Outcome.TheVariants.{Success, Refused}
+use Rattle.rules.specs.Outcome.{Outcome}
 use Rattle.listing.proofs.Laws.{put-put}
 use Rattle.outlines.specs.Loops.{listing, loops_of, outline_outcome}
 use Rattle.outlines.specs.declared.Outline.{Outline}
@@ -33,28 +33,28 @@ abbrev In-Success : Type 0
 In-Success = Lts.Past-After-known_told2 Tie.the-claims Reads.Pre Reads.Post Tie.handed_clauses
 
 -- ---- a refusal
-refused : (k : In-Refused) → (outline_outcome cut_rooms list_room k.args.levels k.args.indices.now k.args.coords.now ≡ Refused k.in-Refused.r)
+refused : (k : In-Refused) → (outline_outcome cut_rooms list_room k.args.levels k.args.indices.now k.args.coords.now ≡ Err k.in-Err.r)
 refused k =
     let d = k.rim_loops-t.ensures in
-    sym d.call.answer ∙ behind-refused d.outcome (loops_of k.args.levels k.args.indices.now k.args.coords.now) k.in-Refused.r (sym k.in-Refused.is ∙ d.answer)
+    sym d.call.answer ∙ behind-refused d.outcome (loops_of k.args.levels k.args.indices.now k.args.coords.now) k.in-Err.r (sym k.in-Err.is ∙ d.answer)
 
 -- ---- a success: the outcome behind it, and what stands in the list and in the positions
-behind : (k : In-Success) → (Behind k.rim_loops-t.ensures.outcome (loops_of k.args.levels k.args.indices.now k.args.coords.now) k.in-Success.o)
+behind : (k : In-Success) → (Behind k.rim_loops-t.ensures.outcome (loops_of k.args.levels k.args.indices.now k.args.coords.now) k.in-Ok.o)
 behind k =
     let d = k.rim_loops-t.ensures in
-    behind-outlined d.outcome (loops_of k.args.levels k.args.indices.now k.args.coords.now) k.in-Success.o (sym k.in-Success.is ∙ d.answer)
+    behind-outlined d.outcome (loops_of k.args.levels k.args.indices.now k.args.coords.now) k.in-Ok.o (sym k.in-Ok.is ∙ d.answer)
 
-answered : (k : In-Success) → (outline_outcome cut_rooms list_room k.args.levels k.args.indices.now k.args.coords.now ≡ Success (behind k).counts)
+answered : (k : In-Success) → (outline_outcome cut_rooms list_room k.args.levels k.args.indices.now k.args.coords.now ≡ Ok (behind k).counts)
 answered k = sym k.rim_loops-t.ensures.call.answer ∙ (behind k).is
 
-long : (k : In-Success) → (length (listing (loops_of k.args.levels k.args.indices.now k.args.coords.now)) ≡ k.in-Success.o.loops + k.in-Success.o.listed)
+long : (k : In-Success) → (length (listing (loops_of k.args.levels k.args.indices.now k.args.coords.now)) ≡ k.in-Ok.o.loops + k.in-Ok.o.listed)
 long k =
     omega (arith, length-listing (loops_of k.args.levels k.args.indices.now k.args.coords.now), ap (λ (z : Outline). z.loops) (behind k).tells, ap (λ (z : Outline). z.listed) (behind k).tells)
 
-short : (k : In-Success) → k.in-Success.o.loops + k.in-Success.o.listed ≤ 682
+short : (k : In-Success) → k.in-Ok.o.loops + k.in-Ok.o.listed ≤ 682
 short k = omega (arith, long k, (few k.args.levels k.args.indices.now k.args.coords.now (behind k).counts (answered k)).1)
 
-list-is : (k : In-Success) → (take (k.in-Success.o.loops + k.in-Success.o.listed) k.rim_loops-t.new.list ≡ listing (loops_of k.args.levels k.args.indices.now k.args.coords.now))
+list-is : (k : In-Success) → (take (k.in-Ok.o.loops + k.in-Ok.o.listed) k.rim_loops-t.new.list ≡ listing (loops_of k.args.levels k.args.indices.now k.args.coords.now))
 list-is k =
     rw (k.rim_loops-t.ensures.left, (behind k).is) (part_of (listing (loops_of k.args.levels k.args.indices.now k.args.coords.now)) (replicate 682 0) 0 _ (long k) (omega (arith, short k, length-replicate {A = ℕ} 682 0)))
 
@@ -64,23 +64,23 @@ overflow_add-n c = omega (arith, short c.before.before.before.before.before.befo
 pub slice_bounds-list-end : goal.slice_bounds-list-end
 slice_bounds-list-end c = omega (arith, short c.before.before.before.before.before.before.before.before, c.rim_loops-t.auto.list)
 
-pub slice_bounds-entries-end-in-Success : goal.slice_bounds-entries-end-in-Success
-slice_bounds-entries-end-in-Success c = sym (length-take-le _ _ (omega (arith, short c.before.before.before.before.before.before.before.before.before, c.rim_loops-t.auto.list)))
+pub slice_bounds-entries-end-in-Ok : goal.slice_bounds-entries-end-in-Ok
+slice_bounds-entries-end-in-Ok c = sym (length-take-le _ _ (omega (arith, short c.before.before.before.before.before.before.before.before.before, c.rim_loops-t.auto.list)))
 
 pub entries-requires : goal.entries-requires
 entries-requires c = record { room = rw (list-is c.before.before.before.before.before.before.before.before.before) (omega (arith, long c.before.before.before.before.before.before.before.before.before, short c.before.before.before.before.before.before.before.before.before, c.outlines_line-first.ensures.upper_bound, c.outlines_line-first.auto.text, c.requires)); vertices = (rw (list-is c.before.before.before.before.before.before.before.before.before) (vertices-are c.args.levels c.args.indices.now c.args.coords.now (behind c.before.before.before.before.before.before.before.before.before).counts (answered c.before.before.before.before.before.before.before.before.before)), omega (arith, c.rim_loops-t.auto.positions)) }
 
-pub returns-in-Refused : goal.returns-in-Refused
-returns-in-Refused c = let r = c.refused_text.ensures in
-    record { put = rw (← (text-refused c.args.levels c.args.indices.now c.args.coords.now c.in-Refused.r (refused c.before.before.before.before.before))) r.put; upper_bound = r.upper_bound }
+pub returns-in-Err : goal.returns-in-Err
+returns-in-Err c = let r = c.refused_text.ensures in
+    record { put = rw (← (text-refused c.args.levels c.args.indices.now c.args.coords.now c.in-Err.r (refused c.before.before.before.before.before))) r.put; upper_bound = r.upper_bound }
 
-text-is : (k : In-Success) → (outlines_line k.in-Success.o ++ entry_texts k.rim_loops-t.new.positions 0 (take (k.in-Success.o.loops + k.in-Success.o.listed) k.rim_loops-t.new.list) ≡ cage_text k.args.levels k.args.indices.now k.args.coords.now)
+text-is : (k : In-Success) → (outlines_line k.in-Ok.o ++ entry_texts k.rim_loops-t.new.positions 0 (take (k.in-Ok.o.loops + k.in-Ok.o.listed) k.rim_loops-t.new.list) ≡ cage_text k.args.levels k.args.indices.now k.args.coords.now)
 text-is k =
     let zeros : List ℤ = replicate 1536 (pos 0) in
     let ps = positions whole (last whole k.args.levels k.args.indices.now k.args.coords.now) in
     let p : k.rim_loops-t.new.positions ≡ sets zeros 0 ps = k.rim_loops-t.ensures.call.positions ∙ ap {B = List ℤ} (λ (x : Outcome). written x ps zeros) (behind k).is in
     rw (list-is k, p, (behind k).tells) (text-listed k.args.levels k.args.indices.now k.args.coords.now (behind k).counts (answered k) zeros (length-replicate {A = ℤ} 1536 (pos 0)))
 
-pub returns-in-Success : goal.returns-in-Success
-returns-in-Success c = let r = c.entries.ensures in
+pub returns-in-Ok : goal.returns-in-Ok
+returns-in-Ok c = let r = c.entries.ensures in
     record { put = put_as (text-is c.before.before.before.before.before.before.before.before.before.before.before.before) (put-put c.outlines_line-first.ensures.put r.put); upper_bound = omega (arith, r.upper_bound, ap length (list-is c.before.before.before.before.before.before.before.before.before.before.before.before), long c.before.before.before.before.before.before.before.before.before.before.before.before, short c.before.before.before.before.before.before.before.before.before.before.before.before, c.outlines_line-first.ensures.upper_bound, c.requires) }

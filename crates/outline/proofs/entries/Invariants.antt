@@ -6,8 +6,5 @@ use borrow.Author.Rules.{rules}
 use Rattle.outline.proofs.Lines.{Along, along-first, vertex-here, along-more, along-last}
 use Rattle.outline.proofs.entries.Given as goal
 
-abbrev pub invariant-loop-i : goal.invariant-loop-i
-invariant-loop-i l = Along l.positions l.list 512 l.from l.initial.text l.text l.at l.left l.i
-
-abbrev pub decreases-loop-i : goal.decreases-loop-i
-decreases-loop-i l = length l.list - l.i
+abbrev pub invariant-loop-e : goal.invariant-loop-e
+invariant-loop-e l = Along l.positions l.list 512 l.from l.initial.text l.text l.at l.left l.e-index

@@ -4,5 +4,5 @@ use lib.Seq.{length-take-le}
 use borrow.Author.Rules.{rules}
 use Rattle.outline.proofs.main.Goals as goal
 
-pub slice_bounds-write_all-end : goal.slice_bounds-write_all-end
-slice_bounds-write_all-end c = sym (length-take-le _ _ (omega (arith, c.trace-k.ensures.upper_bound, c.trace-k.auto.text)))
+pub slice_bounds-output-end : goal.slice_bounds-output-end
+slice_bounds-output-end c = sym (length-take-le _ _ (omega (arith, c.trace-k.ensures.upper_bound, c.trace-k.auto.text)))

@@ -1,4 +1,4 @@
-use borrow.Author.Rules.{rules}
+use Rattle.std.specs.Prelude.{Err, Ok}
 use native.Mathlib.Omega.{arith}
 use Prim.Native.Nat.{ℕ, ◌+◌, ◌/◌, ◌≤◌}
 use mathlib.Core.Path.{◌≡◌, refl, sym, ap, ◌∙◌}
@@ -9,7 +9,6 @@ use Rattle.rules.specs.Position.{whole}
 use Rattle.rules.specs.Levels.{last}
 use Rattle.rules.specs.Answers.{counted, whole_rooms}
 use Rattle.rules.specs.declared.Counts.{Counts}
-use Rattle.rules.specs.declared.Outcome.TheVariants.{Success, Refused}
 use Rattle.loopsubdiv.proofs.Outcomes.{Done, done}
 use Rattle.outlines.specs.Loops.{begins, listing, loops_of}
 use Rattle.outlines.proofs.Accepted.{marks-none, traceable, cage-facts, loops-count, listed-count, room-needed, rims-few, outcome-short, outcome-done, outline-is}
@@ -48,7 +47,7 @@ overflow_add-rims c = omega (arith, few c.before.before, rims c.before.before.be
 pub returns-then-list-rims : goal.returns-then-list-rims
 returns-then-list-rims c = let o = outcome-short (whole_rooms (length c.args.positions.now) (length c.args.out.now) (length c.args.words.now) (length c.args.work.now)) (length c.args.list.now) c.args.levels c.args.indices.now c.args.coords.now c.args.c c.requires.success (omega (arith, c.if-list-rims.true, needs-room c.before.before.before)) in
     record {
-      outcome = Refused (record { number = 20; place = 0 });
+      outcome = Err (record { number = 20; place = 0 });
       call = record { answer = sym o; positions = refl; indices = refl; words = refl; work = refl };
       answer = refl;
       left = refl;
@@ -63,7 +62,7 @@ returns c = let e = (D c.before.before.before.before.before.before.before.before
     let w = c.write.ensures in
     let o = outcome-done (whole_rooms (length c.args.positions.now) (length c.args.out.now) (length c.args.words.now) (length c.args.work.now)) (length c.args.list.now) c.args.levels c.args.indices.now c.args.coords.now c.args.c c.requires.success (omega (arith, c.if-list-rims.false, needs-room c.before.before.before.before.before.before.before.before.before.before.before.before.before.before.before.before.before.before)) in
     record {
-      outcome = Success c.args.c;
+      outcome = Ok c.args.c;
       call = record { answer = sym o; positions = w.call.positions; indices = w.call.indices; words = w.call.words; work = w.call.work };
       answer = outline-is (loops_of c.args.levels c.args.indices.now c.args.coords.now) _ _ (c.mark_loops-loops.ensures.loops ∙ sym (loops-count c.args.levels c.args.indices.now c.args.coords.now e)) (rims c.before.before.before.before.before.before.before.before.before.before.before.before.before.before.before.before.before.before.before.before.before.before.before.before.before ∙ sym (listed-count c.args.levels c.args.indices.now c.args.coords.now e));
       left = w.list;

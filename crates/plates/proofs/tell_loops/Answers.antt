@@ -1,8 +1,8 @@
 use borrow.Author.Rules.{rules}
 use Rattle.plates.proofs.tell_loops.Goals as goal
 
-pub returns-in-Success : goal.returns-in-Success
-returns-in-Success c = rw c.in-Success.is
+pub returns-in-Ok : goal.returns-in-Ok
+returns-in-Ok c = rw c.in-Ok.is
 
-pub returns-in-Refused : goal.returns-in-Refused
-returns-in-Refused c = rw c.in-Refused.is
+pub returns-in-Err : goal.returns-in-Err
+returns-in-Err c = rw c.in-Err.is

@@ -2,7 +2,6 @@ use borrow.Author.Tests.{lt-ltb, le-ltb, eq-eqb, ne_eqb}
 use mathlib.Core.Path.{sym, ◌∙◌}
 use Rattle.reader.proofs.Laws.{first_word}
 use Rattle.reader.specs.Reading.{sheet_of}
-use borrow.Author.Rules.{rules}
 use Rattle.reader.proofs.read_sheet.Goals as goal
 
 pub returns-then-n-lt20 : goal.returns-then-n-lt20

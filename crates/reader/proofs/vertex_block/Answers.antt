@@ -1,22 +1,16 @@
-use mathlib.Core.Path.{◌≡◌, sym, ap, ◌∙◌}
+use mathlib.Core.Path.{sym, ◌∙◌}
 use native.Mathlib.Omega.{arith}
 use lib.Seq.{length-take-le}
-use Rattle.reader.specs.Reading.{vertex_bytes, sheet_of}
-use Rattle.reader.proofs.Laws.{bytes-within, vertices-are}
-use borrow.Author.Rules.{rules}
-use Rattle.reader.proofs.vertex_block.Lts
-use Rattle.reader.proofs.vertex_block.Reads
-use Rattle.reader.proofs.vertex_block.Tie
+use Rattle.reader.proofs.Laws.{good_length, no-vertices, vertices-are}
+use Rattle.reader.proofs.Read.{read, none-is-bad}
 use Rattle.reader.proofs.vertex_block.Goals as goal
 
-abbrev After-vertex_bytes-n : Type 0
-After-vertex_bytes-n = Lts.After-vertex_bytes Tie.the-claims Reads.Pre Reads.Post
+pub returns-in_default : goal.returns-in_default
+returns-in_default c = no-vertices c.args.b.now (none-is-bad c.args.b.now (sym c.read_sheet.ensures ∙ c.in_default.is))
 
-bytes : (c : After-vertex_bytes-n) → c.vertex_bytes-n.result ≡ vertex_bytes (sheet_of c.args.b.now)
-bytes c = c.vertex_bytes-n.ensures ∙ ap vertex_bytes c.read_sheet.ensures
-
-pub slice_bounds-result-end : goal.slice_bounds-result-end
-slice_bounds-result-end c = sym (length-take-le _ _ (omega (arith, bytes c.before, bytes-within c.args.b.now)))
+pub slice_bounds-result-end-2 : goal.slice_bounds-result-end-2
+slice_bounds-result-end-2 c = let k = read c.args.b.now c.in-Some.s (sym c.in-Some.ensures) in
+    sym (length-take-le _ _ (omega (arith, good_length c.args.b.now k.good, k.verts)))
 
 pub returns : goal.returns
-returns c = rw (bytes c.before) (vertices-are c.args.b.now)
+returns c = let k = read c.args.b.now c.in-Some.s (sym c.in-Some.ensures) in rw (← k.verts) (vertices-are c.args.b.now k.good)

@@ -1,3 +1,4 @@
+use Rattle.std.specs.Prelude.{Ok}
 use native.Mathlib.Omega.{arith}
 use Prim.Native.Nat.{ℕ, ◌+◌, ◌*◌, ◌/◌, ◌≤◌}
 use mathlib.Core.Path.{◌≡◌, sym, ap, ◌∙◌}
@@ -6,27 +7,26 @@ use Rattle.rules.specs.Mesh.{links, rims}
 use Rattle.rules.specs.Levels.{Sizes}
 use Rattle.rules.specs.Refusals.{size_refusal}
 use Rattle.rules.specs.declared.Counts.{Counts}
-use Rattle.rules.specs.declared.Outcome.TheVariants.{Success}
 use Rattle.limits.specs.Verdicts.{verdict_of}
 use Rattle.limits.specs.Sizes.{counts_after, over_of}
 use Rattle.cage.specs.Sizes.{cage_counts}
 use Rattle.cage.proofs.Rounds.{rims-few}
 use Rattle.cage.proofs.Sizes.{sizes-are, size_is}
 use Rattle.cage.proofs.Stages.{good_of, unless-refused, unless-last}
-use borrow.Author.Rules.{rules}
 use Rattle.scans.proofs.judge_size.Lts
 use Rattle.scans.proofs.judge_size.Reads
 use Rattle.scans.proofs.judge_size.Tie
+use Rattle.limits.proofs.Search.{refused}
 use Rattle.scans.proofs.judge_size.Goals as goal
 
 abbrev After-count_rims-r : Type 0
-After-count_rims-r = Lts.After-count_rims Tie.the-claims Reads.Pre Reads.Post
+After-count_rims-r = Lts.After-count_rims Tie.the-claims Reads.Pre Reads.Post Tie.handed_clauses
 
 abbrev After-grown-c : Type 0
-After-grown-c = Lts.After-grown Tie.the-claims Reads.Pre Reads.Post
+After-grown-c = Lts.After-grown Tie.the-claims Reads.Pre Reads.Post Tie.handed_clauses
 
 abbrev After-size : Type 0
-After-size = Lts.After-size Tie.the-claims Reads.Pre Reads.Post
+After-size = Lts.After-size Tie.the-claims Reads.Pre Reads.Post Tie.handed_clauses
 
 few : (k : After-count_rims-r) → k.count_rims-r.result ≤ length k.args.indices.now
 few k = rw k.count_rims-r.ensures (rims-few k.args.indices.now)
@@ -46,9 +46,6 @@ verdict-is k =
     ap verdict_of (size_is a.levels a.v a.indices.now)
     ∙ sym (k.size.ensures ∙ ap (λ (c : Counts). verdict_of (over_of c)) (counts-are k.before))
 
-pub count_rims-r-requires : goal.count_rims-r-requires
-count_rims-r-requires c = c.requires.2
-
 pub overflow_add-f : goal.overflow_add-f
 overflow_add-f c = omega (arith, few c.before)
 
@@ -56,8 +53,8 @@ pub grown-c-requires : goal.grown-c-requires
 grown-c-requires c = let t = c.requires.2.thirds in
     (c.requires.0, c.requires.1, omega (arith, c.requires.2.few), omega (arith, few c.before), omega (arith, few c.before))
 
-pub returns-in-No : goal.returns-in-No
-returns-in-No c = unless-refused (size_refusal c.args.levels c.args.v c.args.indices.now) _ _ (verdict-is c.before.before ∙ c.in-No.is)
+pub returns-in_err-size : goal.returns-in_err-size
+returns-in_err-size c = refused _ _ _ c.from_residual.ensures.1 (unless-refused (size_refusal c.args.levels c.args.v c.args.indices.now) _ _ (verdict-is c.before.before.before.before ∙ c.in_err-size.was))
 
-pub returns-in-Pass : goal.returns-in-Pass
-returns-in-Pass c = ap Success (counts-are c.before.before.before) ∙ sym (unless-last (size_refusal c.args.levels c.args.v c.args.indices.now) _ (verdict-is c.before.before ∙ c.in-Pass.is))
+pub returns : goal.returns
+returns c = ap Ok (counts-are c.before.before.before.before) ∙ sym (unless-last (size_refusal c.args.levels c.args.v c.args.indices.now) _ (verdict-is c.before.before.before ∙ c.in_ok-size.was))

@@ -1,13 +1,10 @@
-use borrow.Author.Rules.{rules}
 use native.Mathlib.Omega.{arith}
-use Prim.Native.Nat.{◌-◌, ◌≤◌}
-use mathlib.Core.Path.{◌≡◌, refl, ◌∙◌}
+use mathlib.Core.Path.{refl, ◌∙◌}
 use lib.ListN.{length}
-use lib.Seq.{sets, length-sets}
+use lib.Seq.{length-sets}
 use mathlib.Core.Path.{ap}
-use Rattle.lists.specs.Lists.{count, gather}
 use Rattle.weights.specs.Lent.{lowered}
-use Rattle.sharp.proofs.Last.{sharp_limit, sharp-limit-more, sharp-limits-are}
+use Rattle.sharp.proofs.Last.{sharp-limit-more, sharp-limits-are}
 use Rattle.sharp.proofs.limit.Goals as goal
 
 pub loop-u-init : goal.loop-u-init

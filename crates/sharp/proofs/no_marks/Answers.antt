@@ -1,11 +1,6 @@
-use borrow.Author.Rules.{rules}
 use native.Mathlib.Omega.{arith}
-use Prim.Native.Nat.{◌-◌, ◌≤◌}
 use mathlib.Core.Path.{◌≡◌, refl, ◌∙◌}
-use lib.ListN.{length, length-set}
-use lib.Seq.{sets}
-use Rattle.lists.specs.Lists.{count, gather}
-use Rattle.sharp.specs.Marked.{unmarked}
+use lib.ListN.{length-set}
 use Rattle.sharp.proofs.First.{unmarked-more}
 use Rattle.sharp.proofs.no_marks.Goals as goal
 

@@ -1,11 +1,11 @@
 use native.Mathlib.Omega.{arith}
-use Prim.Native.Nat.{ℕ, ◌-◌}
+use Prim.Native.Nat.{ℕ}
 use mathlib.Core.Path.{◌≡◌, subst}
 use Rattle.rules.specs.Position.{whole}
 use Rattle.rules.specs.Sharp.{sharp_last}
 use Rattle.rules.proofs.Marked.{near-sharp-at}
 use Rattle.sharp.specs.Marked.{SharpHeld}
-use Rattle.sharp.proofs.Marching.{Marching, marching-first, marching-held, marching-fits, marching-within, marching-markable, marching-placed, marching-coords, marching-ready, marching-apart, marching-more, marching-next}
+use Rattle.sharp.proofs.Marching.{marching-first, marching-held, marching-fits, marching-within, marching-markable, marching-placed, marching-coords, marching-ready, marching-apart, marching-more, marching-next}
 use Rattle.sharp.proofs.refine.Goals as goal
 
 pub loop-i-init : goal.loop-i-init

@@ -1,7 +1,6 @@
-use borrow.Author.Rules.{rules}
 use native.Mathlib.Omega.{arith}
 use Prim.Native.Nat.{◌*◌}
-use mathlib.Core.Path.{◌≡◌, ap, ◌∙◌}
+use mathlib.Core.Path.{ap, ◌∙◌}
 use lib.IntN.{pos}
 use lib.ListN.{length}
 use Rattle.lists.proofs.Stores.{length-cleared}
@@ -17,22 +16,22 @@ use Rattle.sharp.proofs.run.Reads
 use Rattle.sharp.proofs.run.Tie
 use Rattle.sharp.proofs.run.Goals as goal
 
-abbrev After-copy_coords : Type 0
-After-copy_coords = Lts.After-copy_coords Tie.the-claims Reads.Pre Reads.Post Tie.handed_clauses
+abbrev After-copy : Type 0
+After-copy = Lts.After-copy Tie.the-claims Reads.Pre Reads.Post Tie.handed_clauses
 
 abbrev After-refine : Type 0
 After-refine = Lts.After-refine Tie.the-claims Reads.Pre Reads.Post Tie.handed_clauses
 
 -- level 0 is held, and nothing past the needed lengths has changed
-started : (k : After-copy_coords) →
-    (SharpHeld (sharp_last whole 0 k.args.sharp.now k.args.indices.now k.args.coords.now) 0 (half_of k.args.nf k.args.nv) (third_of k.args.nv) k.load_marks.new.words k.copy_coords.new.s
-    × Kept (2 * half_of k.args.nf k.args.nv) k.load_marks.new.words k.args.words.now × Kept (2 * third_of k.args.nv) k.copy_coords.new.s k.args.work.now)
+started : (k : After-copy) →
+    (SharpHeld (sharp_last whole 0 k.args.sharp.now k.args.indices.now k.args.coords.now) 0 (half_of k.args.nf k.args.nv) (third_of k.args.nv) k.load_marks.new.words k.copy.new.s
+    × Kept (2 * half_of k.args.nf k.args.nv) k.load_marks.new.words k.args.words.now × Kept (2 * third_of k.args.nv) k.copy.new.s k.args.work.now)
 started k =
     let f = first-kept whole k.args.levels k.args.indices.now k.args.coords.now k.args.nf k.args.nv k.requires.planned.0 k.args.words.now k.args.work.now k.requires.room.0 k.requires.room.1.0 in
     let m = k.load_marks.ensures in
     let a : Kept (2 * half_of k.args.nf k.args.nv) k.load_words.new.words k.args.words.now = rw k.load_words.ensures f.0 in
-    let d : Kept (2 * third_of k.args.nv) k.copy_coords.new.s k.args.work.now = rw k.copy_coords.ensures f.1 in
-    (sharp-first k.args.levels k.args.sharp.now k.args.indices.now k.args.coords.now k.args.nf k.args.nv k.requires.planned.0 _ _ _ m (first-coords k.args.levels k.args.sharp.now k.args.indices.now k.args.coords.now k.args.nf k.args.nv k.requires.planned.0 k.args.work.now _ k.requires.room.1.0 k.copy_coords.ensures), kept_then m.kept a, d)
+    let d : Kept (2 * third_of k.args.nv) k.copy.new.s k.args.work.now = rw k.copy.ensures f.1 in
+    (sharp-first k.args.levels k.args.sharp.now k.args.indices.now k.args.coords.now k.args.nf k.args.nv k.requires.planned.0 _ _ _ m (first-coords k.args.levels k.args.sharp.now k.args.indices.now k.args.coords.now k.args.nf k.args.nv k.requires.planned.0 k.args.work.now _ k.requires.room.1.0 k.copy.ensures), kept_then m.kept a, d)
 
 -- and so after the levels
 kept : (k : After-refine) → (Kept (2 * half_of k.args.nf k.args.nv) k.refine.new.words k.args.words.now × Kept (2 * third_of k.args.nv) k.refine.new.work k.args.work.now)
@@ -45,8 +44,8 @@ pub load_marks-requires : goal.load_marks-requires
 load_marks-requires c = let f = first-loaded c.args.levels c.args.sharp.now c.args.indices.now c.args.coords.now c.args.nf c.args.nv c.requires.planned.0 c.args.words.now _ c.requires.room.0 c.load_words.ensures in
     record { planned = c.requires.planned; held = f.0; room = omega (arith, f.1, c.requires.room.0) }
 
-pub copy_coords-requires : goal.copy_coords-requires
-copy_coords-requires c = omega (arith, (small whole c.args.levels c.args.indices.now c.args.coords.now c.args.nf c.args.nv c.requires.planned.0).1, within whole c.args.levels c.args.indices.now c.args.coords.now c.args.nf c.args.nv c.requires.planned.0, c.requires.room.1.0)
+pub copy-requires : goal.copy-requires
+copy-requires c = omega (arith, (small whole c.args.levels c.args.indices.now c.args.coords.now c.args.nf c.args.nv c.requires.planned.0).1, within whole c.args.levels c.args.indices.now c.args.coords.now c.args.nf c.args.nv c.requires.planned.0, c.requires.room.1.0)
 
 pub refine-requires : goal.refine-requires
 refine-requires c = let f = started c.before.before.before.before in
@@ -59,17 +58,17 @@ finish-requires c = let f = kept c.before.before.before.before.before.before in
 pub overflow_mul-half-3 : goal.overflow_mul-half-3
 overflow_mul-half-3 c = omega (arith, c.requires.room.0)
 
-pub zero_words-requires : goal.zero_words-requires
-zero_words-requires c = let f = kept c.before.before.before.before.before.before.before.before.before.before.before in omega (arith, f.0.long, c.requires.room.0)
+pub clear-requires : goal.clear-requires
+clear-requires c = let f = kept c.before.before.before.before.before.before.before.before.before.before.before in omega (arith, f.0.long, c.requires.room.0)
 
 pub overflow_mul-third-2 : goal.overflow_mul-third-2
 overflow_mul-third-2 c = omega (arith, c.requires.room.1.0)
 
-pub zero_coords-requires : goal.zero_coords-requires
-zero_coords-requires c = let f = kept c.before.before.before.before.before.before.before.before.before.before.before.before.before.before.before in omega (arith, f.1.long, c.requires.room.1.0)
+pub clear-requires-2 : goal.clear-requires-2
+clear-requires-2 c = let f = kept c.before.before.before.before.before.before.before.before.before.before.before.before.before.before.before in omega (arith, f.1.long, c.requires.room.1.0)
 
 pub shape_of-words : goal.shape_of-words
-shape_of-words c = let f = kept c.before.before.before.before.before.before.before.before.before.before.before.before.before.before.before.before.before in ap length c.zero_words.ensures ∙ length-cleared (2 * half_of c.args.nf c.args.nv) 0 _ (omega (arith, f.0.long, c.requires.room.0)) ∙ f.0.long
+shape_of-words c = let f = kept c.before.before.before.before.before.before.before.before.before.before.before.before.before.before.before.before.before in ap length c.clear.ensures ∙ length-cleared (2 * half_of c.args.nf c.args.nv) 0 _ (omega (arith, f.0.long, c.requires.room.0)) ∙ f.0.long
 
 pub returns : goal.returns
-returns c = let f = kept c.before.before.before.before.before.before.before.before.before.before.before.before.before.before.before.before.before in record { positions = c.finish.ensures.positions; out = c.finish.ensures.out; words = c.zero_words.ensures ∙ clear_kept 0 (2 * half_of c.args.nf c.args.nv) _ c.args.words.now f.0; work = c.zero_coords.ensures ∙ clear_kept (pos 0) (2 * third_of c.args.nv) _ c.args.work.now f.1 }
+returns c = let f = kept c.before.before.before.before.before.before.before.before.before.before.before.before.before.before.before.before.before in record { positions = c.finish.ensures.positions; out = c.finish.ensures.out; words = c.clear.ensures ∙ clear_kept 0 (2 * half_of c.args.nf c.args.nv) _ c.args.words.now f.0; work = c.clear-2.ensures ∙ clear_kept (pos 0) (2 * third_of c.args.nv) _ c.args.work.now f.1 }

@@ -3,55 +3,46 @@ use mathlib.Core.Path.{◌≡◌, refl, sym, ap, ◌∙◌}
 use mathlib.Core.Option.{Option, none, some}
 use native.Mathlib.Omega.{arith}
 use lib.ListN.{length}
+use Rattle.std.specs.Prelude.{Err}
+use Rattle.std.proofs.lemmas.Result.{err_from_is_err_and}
 use Rattle.rules.specs.Answers.{whole_rooms}
 use Rattle.rules.specs.declared.Refusal.{Refusal}
 use Rattle.rules.proofs.Checks.{shape_of}
 use Rattle.limits.specs.Verdicts.{verdict_of}
 use Rattle.limits.proofs.Search.{passes}
-use Rattle.reader.specs.Reading.{sheet_of}
-use Rattle.reader.specs.declared.Sheet.TheVariants.{Is}
-use Rattle.limits.specs.declared.Check.TheVariants.{Pass, No}
 use Rattle.reader.proofs.Read.{read, refused-15, refused-shape}
-use borrow.Author.Rules.{rules}
-use Rattle.sheet.proofs.subdivide_by.Lts
-use Rattle.sheet.proofs.subdivide_by.Reads
-use Rattle.sheet.proofs.subdivide_by.Tie
 use Rattle.sheet.proofs.subdivide_by.Goals as goal
 
-abbrev In-Is : Type 0
-In-Is = Lts.Past-After-known_told Tie.the-claims Reads.Pre Reads.Post
-
-said : (o : Option Refusal) (r : Refusal) → verdict_of o ≡ No r → o ≡ some r
+said : (o : Option Refusal) (r : Refusal) → verdict_of o ≡ Err r → o ≡ some r
 said none r e = absurd (let z : ◌≡◌ {A = ℕ} 0 1 = cc in omega arith)
 said (some q) r e = let f : q ≡ r = cc in ap some f
 
-told : (k : In-Is) → sheet_of k.args.bytes.now ≡ Is k.in-Is.vertices k.in-Is.faces k.in-Is.levels
-told k = sym k.read_sheet.ensures ∙ k.in-Is.is
-
 pub subdivide_lists-requires : goal.subdivide_lists-requires
-subdivide_lists-requires c = let s = shape_of c.in-Is.levels (3 * c.in-Is.faces) (3 * c.in-Is.vertices) (passes _ (sym c.shape.ensures ∙ c.in-Pass.is)) in
-    (omega (arith, s.verts), (omega (arith, s.faces), told c.before.before.before.before.before.before.before))
+subdivide_lists-requires g c = let s = c.in-Some.sheet in
+    let h = shape_of s.levels (3 * s.faces) (3 * s.vertices) (passes _ (sym c.shape.ensures ∙ c.in_ok-shape.was)) in
+    (omega (arith, h.verts), (omega (arith, h.faces), sym c.in-Some.ensures))
 
-pub returns-in-Refused : goal.returns-in-Refused
-returns-in-Refused c = let a = c.args in
+pub returns-in_default : goal.returns-in_default
+returns-in_default g c = let a = c.args in
     let rooms = whole_rooms (length a.positions.now) (length a.out.now) (length a.words.now) (length a.work.now) in
     record {
-      answer = sym (refused-15 rooms a.bytes.now (sym c.read_sheet.ensures ∙ c.in-Refused.is));
+      answer = sym (refused-15 rooms a.bytes.now (sym c.read_sheet.ensures ∙ c.in_default.is));
       positions = refl;
       indices = refl;
       words = refl;
       work = refl;
     }
 
-pub returns-in-No : goal.returns-in-No
-returns-in-No c = let a = c.args in
-    let h = read _ _ _ _ (told c.before.before.before) in
-    let e = said _ c.in-No.r (sym c.shape.ensures ∙ c.in-No.is) in
+pub returns-in_err-shape : goal.returns-in_err-shape
+returns-in_err-shape g c = let a = c.args in
+    let h = read _ _ (sym c.in-Some.ensures) in
+    let p = err_from_is_err_and c.from_residual.result c.from_residual.ensures.1 in
+    let e = said _ p.0 (sym c.shape.ensures ∙ c.in_err-shape.was ∙ ap Err (sym p.2)) in
     let rooms = whole_rooms (length a.positions.now) (length a.out.now) (length a.words.now) (length a.work.now) in
-    record {
-      answer = sym (refused-shape rooms a.bytes.now h.good c.in-No.r (rw (h.verts, h.faces, h.levels) e));
+    rw p.1 (record {
+      answer = sym (refused-shape rooms a.bytes.now h.good p.0 (rw (h.verts, h.faces, h.levels) e));
       positions = refl;
       indices = refl;
       words = refl;
       work = refl;
-    }
+    })

@@ -1,64 +1,37 @@
-use Prim.Native.Nat.{ℕ, ◌*◌}
-use mathlib.Core.Path.{◌≡◌, sym, ap}
+use Prim.Native.Nat.{◌*◌}
+use mathlib.Core.Path.{◌≡◌, sym}
 use native.Mathlib.Omega.{arith}
 use lib.ListN.{length, take}
 use lib.Seq.{length-take-le}
 use Rattle.rules.specs.Answers.{whole_rooms}
-use Rattle.rules.specs.Sheets.{word_at, signed, vertex_block, face_block, sheet_indices, sheet_coords}
-use Rattle.reader.proofs.Read.{Read, read, vertex-bytes, face-bytes, decoded, read-outcome}
-use borrow.Author.Rules.{rules}
-use Rattle.sheet.proofs.subdivide_lists.Lts
-use Rattle.sheet.proofs.subdivide_lists.Reads
-use Rattle.sheet.proofs.subdivide_lists.Tie
+use Rattle.rules.specs.Sheets.{sheet_indices, sheet_coords}
+use Rattle.reader.proofs.Read.{read, vertices-long, faces-long, coords-in-front, indices-in-front, read-outcome}
 use Rattle.sheet.proofs.subdivide_lists.Goals as goal
 
-abbrev Start : Type 0
-Start = Lts.Start Tie.the-claims Reads.Pre Reads.Post
-
-abbrev After-coords_from : Type 0
-After-coords_from = Lts.After-coords_from Tie.the-claims Reads.Pre Reads.Post
-
-abbrev After-words_from : Type 0
-After-words_from = Lts.After-words_from Tie.the-claims Reads.Pre Reads.Post
-
-known : (s : Start) → Read s.args.bytes.now s.args.vertices s.args.faces s.args.levels
-known s = read _ _ _ _ s.requires.1.1
-
-pub coords_from-requires : goal.coords_from-requires
-coords_from-requires c = let k = known c.before.before.before.before.before.before in
+pub numbers_from-requires : goal.numbers_from-requires
+numbers_from-requires g c = let a = c.args in
     let h = c.requires in
-    (rw (c.vertex_block.ensures, vertex-bytes c.args.bytes.now k.good, k.verts) (omega arith), omega arith)
+    (rw c.vertex_block.ensures (vertices-long a.bytes.now a.sheet h.1.1), omega (arith, h.0))
 
-pub words_from-requires : goal.words_from-requires
-words_from-requires c = let k = known c.before.before.before.before.before.before.before.before.before.before in
+pub numbers_from-requires-2 : goal.numbers_from-requires-2
+numbers_from-requires-2 g c = let a = c.args in
     let h = c.requires in
-    (rw (c.face_block.ensures, face-bytes c.args.bytes.now k.good, k.faces) (omega arith), omega arith)
-
-coords-are : (k : After-coords_from) → (let a = k.args in take (3 * a.vertices) k.coords_from.new.s ≡ sheet_coords a.bytes.now)
-coords-are k =
-    let h = k.requires in
-    rw (k.coords_from.ensures, k.vertex_block.ensures)
-    (decoded (λ i. signed (word_at (vertex_block k.args.bytes.now) (4 * i))) _ (3 * k.args.vertices) _ (ap (λ (n : ℕ). 3 * n) (known k.before.before.before.before.before.before).verts) (omega arith))
-
-indices-are : (k : After-words_from) → (let a = k.args in take (3 * a.faces) k.words_from.new.s ≡ sheet_indices a.bytes.now)
-indices-are k =
-    let h = k.requires in
-    rw (k.words_from.ensures, k.face_block.ensures)
-    (decoded (λ i. word_at (face_block k.args.bytes.now) (4 * i)) _ (3 * k.args.faces) _ (ap (λ (n : ℕ). 3 * n) (known k.before.before.before.before.before.before.before.before.before.before).faces) (omega arith))
+    (rw c.face_block.ensures (faces-long a.bytes.now a.sheet h.1.1), omega (arith, h.1.0))
 
 pub slice_bounds-smooth-end : goal.slice_bounds-smooth-end
-slice_bounds-smooth-end c = let h = c.requires in
-    sym (length-take-le _ _ (omega (arith, c.words_from.auto.s)))
+slice_bounds-smooth-end g c = sym (length-take-le _ _ (omega (arith, c.requires.1.0, c.numbers_from-2.auto.s)))
 
 pub slice_bounds-smooth-end-2 : goal.slice_bounds-smooth-end-2
-slice_bounds-smooth-end-2 c = let h = c.requires in
-    sym (length-take-le _ _ (omega (arith, c.coords_from.auto.s)))
+slice_bounds-smooth-end-2 g c = sym (length-take-le _ _ (omega (arith, c.requires.0, c.numbers_from.auto.s)))
 
 pub returns : goal.returns
-returns c = let a = c.args in
+returns g c = let a = c.args in
+    let h = c.requires in
     let rooms = whole_rooms (length a.positions.now) (length a.out.now) (length a.words.now) (length a.work.now) in
-    let k = known c.before.before.before.before.before.before.before.before.before.before.before.before.before.before.before.before.before.before.before.before.before.before.before.before.before in
-    let e = rw (indices-are c.before.before.before.before.before.before.before.before.before.before.before.before.before.before.before, coords-are c.before.before.before.before.before.before.before.before.before.before.before.before.before.before.before.before.before.before.before, ← k.levels) at c.smooth.ensures in
+    let k = read a.bytes.now a.sheet h.1.1 in
+    let xs : take (3 * a.sheet.vertices) c.numbers_from.new.s ≡ sheet_coords a.bytes.now = rw (c.numbers_from.ensures, c.vertex_block.ensures) (coords-in-front a.bytes.now a.sheet h.1.1 _ (omega (arith, h.0))) in
+    let fs : take (3 * a.sheet.faces) c.numbers_from-2.new.s ≡ sheet_indices a.bytes.now = rw (c.numbers_from-2.ensures, c.face_block.ensures) (indices-in-front a.bytes.now a.sheet h.1.1 _ (omega (arith, h.1.0))) in
+    let e = rw (fs, xs, ← k.levels) at c.smooth.ensures in
     record {
       answer = rw (read-outcome rooms a.bytes.now k.good) e.answer;
       positions = e.positions;

@@ -1,5 +1,6 @@
-use borrow.Author.Rules.{rules}
 use Rattle.spots.specs.Spots.{turn}
+use Rattle.std.proofs.Common.{of_calls}
+use Rattle.spots.proofs.Turns.{chosen}
 use Rattle.spots.proofs.turn.Goals as goal
 
 pub returns-in-Line : goal.returns-in-Line
@@ -20,11 +21,11 @@ returns-in-Minus c = rw c.in-Minus.is c.minus.ensures
 
 pub returns-in-Above : goal.returns-in-Above
 unfolding turn
-returns-in-Above c = rw c.in-Above.is c.above.ensures
+returns-in-Above c = let e = c.onward.ensures in rw c.in-Above.is (chosen _ _ _ _ _ _ e.ended (λ a b. let h = e.goes_on a b in search of_calls) e.stuck)
 
 pub returns-in-Under : goal.returns-in-Under
 unfolding turn
-returns-in-Under c = rw c.in-Under.is c.below.ensures
+returns-in-Under c = let e = c.onward-in-Under.ensures in rw c.in-Under.is (chosen _ _ _ _ _ _ e.ended (λ a b. let h = e.goes_on a b in search of_calls) e.stuck)
 
 pub returns-in-AfterF : goal.returns-in-AfterF
 unfolding turn
@@ -36,7 +37,7 @@ returns-in-Corner c = rw c.in-Corner.is c.corner.ensures
 
 pub returns-in-Number : goal.returns-in-Number
 unfolding turn
-returns-in-Number c = rw c.in-Number.is c.number.ensures
+returns-in-Number c = let e = c.onward-in-Number.ensures in rw c.in-Number.is (chosen _ _ _ _ _ _ e.ended (λ a b. let h = e.goes_on a b in search of_calls) e.stuck)
 
 pub returns-in-Stuck : goal.returns-in-Stuck
 unfolding turn

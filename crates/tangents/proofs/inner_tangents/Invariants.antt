@@ -1,4 +1,3 @@
-use Prim.Native.Nat.{◌-◌, ◌≤◌}
 use mathlib.Core.Path.{◌≡◌}
 use mathlib.Core.List.{map}
 use lib.ListN.{take}
@@ -7,7 +6,4 @@ use Rattle.rules.specs.Tangents.{point, weighted}
 use Rattle.tangents.proofs.inner_tangents.Given as goal
 
 abbrev pub invariant-loop-i : goal.invariant-loop-i
-invariant-loop-i l = (l.i ≤ l.n) × ((l.s ≡ weighted (λ j. cosine j l.n) 0 l.initial.s (take l.i (map (point l.xs) l.ring))) × (l.t ≡ weighted (λ j. sine j l.n) 0 l.initial.t (take l.i (map (point l.xs) l.ring))))
-
-abbrev pub decreases-loop-i : goal.decreases-loop-i
-decreases-loop-i l = l.n - l.i
+invariant-loop-i l = (l.s ≡ weighted (λ j. cosine j l.n) 0 l.initial.s (take l.i (map (point l.xs) l.ring))) × (l.t ≡ weighted (λ j. sine j l.n) 0 l.initial.t (take l.i (map (point l.xs) l.ring)))

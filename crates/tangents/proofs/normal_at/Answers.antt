@@ -1,6 +1,4 @@
-use Prim.Native.Nat.{◌+◌, ◌*◌}
 use mathlib.Core.Path.{sym, ap, ◌∙◌}
-use native.Mathlib.Omega.{arith}
 use lib.ListN.{replicate}
 use lib.Seq.{length-take-le}
 use Rattle.vectors.specs.Vectors.{cross}
@@ -17,9 +15,6 @@ use Rattle.tangents.proofs.normal_at.Goals as goal
 
 abbrev After-one_ring-ring : Type 0
 After-one_ring-ring = Lts.After-one_ring Tie.the-claims Reads.Pre Reads.Post Tie.handed_clauses
-
-pub overflow_cast-s-2 : goal.overflow_cast-s-2
-overflow_cast-s-2 c = let a = c.args in omega (arith, c.shared_slice_known-3-1.given (a.at + 6 * a.nf + a.v.0))
 
 pub one_ring-ring-requires : goal.one_ring-ring-requires
 one_ring-ring-requires c = let a = c.args in
@@ -39,7 +34,7 @@ pub slice_bounds-tangents_at-end : goal.slice_bounds-tangents_at-end
 slice_bounds-tangents_at-end c = sym (length-take-le _ _ (ring c.before.before.before).room)
 
 pub tangents_at-requires : goal.tangents_at-requires
-tangents_at-requires c = record { tables = c.requires.tables; there = (ring c.before.before.before).asks }
+tangents_at-requires c = record { there = (ring c.before.before.before).asks }
 
 pub returns : goal.returns
 returns c = ap three_of (c.normal.ensures ∙ ap (λ (p : Tangents). cross p.s p.t) c.tangents_at.ensures)

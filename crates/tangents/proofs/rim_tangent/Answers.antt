@@ -6,7 +6,7 @@ use Rattle.vectors.specs.Vectors.{minus}
 use Rattle.rules.specs.Tangents.{rim_tangent}
 use Rattle.weights.specs.Weights.{nowhere}
 use Rattle.weights.proofs.Floats.{two, weighs}
-use Rattle.tangents.proofs.Sums.{rim-two, rim-three, four_are}
+use Rattle.tangents.proofs.Sums.{rim-two}
 use Rattle.tangents.proofs.rim_tangent.Goals as goal
 
 pub returns-then-n-eq2 : goal.returns-then-n-eq2
@@ -14,13 +14,3 @@ returns-then-n-eq2 c = let a = c.args in
     let e : a.n ≡ 2 = omega arith in
     c.sub.ensures ∙ ap₂ minus c.add.ensures (weighs a.p c.mul.ensures two) ∙ sym (rim-two a.p nowhere a.ring (omega arith))
     ∙ ap (λ (k : ℕ). rim_tangent a.p (take k a.ring)) (sym e)
-
-pub returns-then-n-eq3 : goal.returns-then-n-eq3
-returns-then-n-eq3 c = let a = c.args in
-    let e : a.n ≡ 3 = omega arith in
-    c.sub-then-n-eq3.ensures ∙ sym (rim-three a.p nowhere a.ring (omega arith)) ∙ ap (λ (k : ℕ). rim_tangent a.p (take k a.ring)) (sym e)
-
-pub returns-then-n-eq4 : goal.returns-then-n-eq4
-returns-then-n-eq4 c = let a = c.args in
-    let e : a.n ≡ 4 = omega arith in
-    c.rim_tangent_4.ensures ∙ ap (rim_tangent a.p) (sym (four_are a.p nowhere a.ring (omega arith)) ∙ ap (λ (k : ℕ). take k a.ring) (sym e))

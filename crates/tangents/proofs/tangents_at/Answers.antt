@@ -7,18 +7,9 @@ use Rattle.tangents.specs.Normals.{both}
 use Rattle.tangents.proofs.Rings.{points-are}
 use Rattle.tangents.proofs.tangents_at.Goals as goal
 
-pub rim_tangents-requires : goal.rim_tangents-requires
-rim_tangents-requires c = record { tables = c.requires.tables; le_n = (rw c.if-rim.true at c.requires.there.1.1, c.requires.there.1.0.few) }
-
-pub inner_tangents-requires : goal.inner_tangents-requires
-inner_tangents-requires c = record { tables = c.requires.tables; in_bounds = (rw c.if-rim.false at c.requires.there.1.1, c.requires.there.1.0) }
-
 pub returns-then-rim : goal.returns-then-rim
 returns-then-rim c = let vs = c.args.ring.now in
     rw c.if-rim.true
     (c.rim_tangents.ensures
     ∙ ap₂ (λ (p : Vec3) (l : List Vec3). both (rim_tangents p l)) c.point.ensures
     (ap (take (length vs)) c.ring_points.ensures ∙ points-are c.args.xs.now vs c.requires.there.1.0.few))
-
-pub returns-else-rim : goal.returns-else-rim
-returns-else-rim c = rw c.if-rim.false c.inner_tangents.ensures

@@ -1,4 +1,4 @@
-use Prim.Native.Nat.{ℕ, ◌-◌, ◌≤◌, ◌<◌}
+use Prim.Native.Nat.{ℕ, ◌<◌}
 use mathlib.Core.Path.{◌≡◌}
 use mathlib.Core.Bool.{false}
 use lib.Dec.{ltb}
@@ -6,12 +6,9 @@ use Rattle.lists.specs.Lists.{lowest}
 use Rattle.turns.specs.Turns.{most_valence}
 use Rattle.rules.specs.Mesh.{valence}
 use Rattle.rules.specs.Refusals.{parted, fans_of}
-use Rattle.cage.specs.Fans.{place_or}
+use Rattle.cage.specs.Fans.{place_of}
 use Rattle.cage.proofs.fans.turns.Given as goal
 
 abbrev pub invariant-loop-u : goal.invariant-loop-u
-invariant-loop-u l = (l.u ≤ l.v) × ((j : ℕ) → j < l.u → parted l.indices (fans_of l.v l.indices) j ≡ false)
-    × (l.crowded ≡ place_or l.v (lowest (λ x. ltb most_valence (valence (fans_of l.v l.indices x))) l.u))
-
-abbrev pub decreases-loop-u : goal.decreases-loop-u
-decreases-loop-u l = l.v - l.u
+invariant-loop-u l = ((j : ℕ) → j < l.u → parted l.indices (fans_of l.v l.indices) j ≡ false)
+    × (l.crowded ≡ place_of (lowest (λ x. ltb most_valence (valence (fans_of l.v l.indices x))) l.u))

@@ -25,15 +25,12 @@ none-at k =
     let u = k.loop-u.u in
     unused-is k.args.indices.now u ∙ ap (λ (h : ℕ). eqb h 0) (sym (k.requires.0.head u (omega arith)))
 
-pub loop-u-init : goal.loop-u-init
-loop-u-init c = (omega arith, λ j h. absurd (omega arith))
-
 pub returns-then-heads-u-eq0 : goal.returns-then-heads-u-eq0
 returns-then-heads-u-eq0 c = let l = c.loop-u in
-    c.no.ensures ∙ sym (lowest-here 9 (λ u. not (found (find (eqb u) c.args.indices.now))) c.args.v l.u (omega arith) (none-at c.before.before.before ∙ eq-eqb _ _ c.if-heads-u-eq0.true) l.invariant.1)
+    c.no.ensures ∙ sym (lowest-here 9 (λ u. not (found (find (eqb u) c.args.indices.now))) c.args.v l.u (omega arith) (none-at c.before.before.before ∙ eq-eqb _ _ c.if-heads-u-eq0.true) l.invariant)
 
 pub loop-u-preserved : goal.loop-u-preserved
-loop-u-preserved c = (omega arith, below_more _ _ c.loop-u.invariant.1 (none-at c.before.before ∙ ne_eqb _ _ c.if-heads-u-eq0.false))
+loop-u-preserved c = below_more _ _ c.loop-u.invariant (none-at c.before.before ∙ ne_eqb _ _ c.if-heads-u-eq0.false)
 
 pub returns : goal.returns
-returns c = sym (lowest-nowhere 9 (λ u. not (found (find (eqb u) c.args.indices.now))) c.args.v (λ j h. c.loop-u.invariant.1 j (omega arith)))
+returns c = sym (lowest-nowhere 9 (λ u. not (found (find (eqb u) c.args.indices.now))) c.args.v (λ j h. c.loop-u.invariant j (omega arith)))

@@ -1,4 +1,4 @@
-use Prim.Native.Nat.{ℕ, ◌-◌, ◌≤◌, ◌<◌}
+use Prim.Native.Nat.{ℕ, ◌<◌}
 use mathlib.Core.Path.{◌≡◌}
 use mathlib.Core.Bool.{false, not}
 use lib.Dec.{eqb}
@@ -6,7 +6,4 @@ use Rattle.lists.specs.Lists.{find, found}
 use Rattle.cage.proofs.fans.unused.Given as goal
 
 abbrev pub invariant-loop-u : goal.invariant-loop-u
-invariant-loop-u l = (l.u ≤ l.v) × ((j : ℕ) → j < l.u → not (found (find (eqb j) l.indices)) ≡ false)
-
-abbrev pub decreases-loop-u : goal.decreases-loop-u
-decreases-loop-u l = l.v - l.u
+invariant-loop-u l = (j : ℕ) → j < l.u → not (found (find (eqb j) l.indices)) ≡ false

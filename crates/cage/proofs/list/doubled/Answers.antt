@@ -35,9 +35,6 @@ folds k =
     ∙ ap (folds_back fs f) (sym (link-coded (get_or (links fs) (3 * f) none)) ∙ ap link_of (sym (word-at fs w k.requires.links (3 * f) (omega arith))))
     ∙ sym k.folds_back.ensures
 
-pub loop-f-init : goal.loop-f-init
-loop-f-init c = (omega arith, λ j h. absurd (omega arith))
-
 pub folds_back-requires : goal.folds_back-requires
 folds_back-requires c = let fs = c.args.indices.now in
     let f = c.loop-f.f in
@@ -46,11 +43,11 @@ folds_back-requires c = let fs = c.args.indices.now in
 pub returns-then-folds_back : goal.returns-then-folds_back
 returns-then-folds_back c = let fs = c.args.indices.now in
     let l = c.loop-f in
-    c.no.ensures ∙ sym (lowest-here 8 (λ f. found (lowest (same_set fs f) f)) (length fs / 3) l.f (omega arith) (folds c.before.before.before ∙ c.if-folds_back.true) l.invariant.1)
+    c.no.ensures ∙ sym (lowest-here 8 (λ f. found (lowest (same_set fs f) f)) (length fs / 3) l.f (omega arith) (folds c.before.before.before ∙ c.if-folds_back.true) l.invariant)
 
 pub loop-f-preserved : goal.loop-f-preserved
-loop-f-preserved c = (omega arith, below_more _ _ c.loop-f.invariant.1 (folds c.before.before ∙ c.if-folds_back.false))
+loop-f-preserved c = below_more _ _ c.loop-f.invariant (folds c.before.before ∙ c.if-folds_back.false)
 
 pub returns : goal.returns
 returns c = let fs = c.args.indices.now in
-    sym (lowest-nowhere 8 (λ f. found (lowest (same_set fs f) f)) (length fs / 3) (λ j h. c.loop-f.invariant.1 j (omega arith)))
+    sym (lowest-nowhere 8 (λ f. found (lowest (same_set fs f) f)) (length fs / 3) (λ j h. c.loop-f.invariant j (omega arith)))

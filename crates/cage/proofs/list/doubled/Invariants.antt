@@ -1,13 +1,9 @@
-use Prim.Native.Nat.{ℕ, ◌-◌, ◌/◌, ◌≤◌, ◌<◌}
+use Prim.Native.Nat.{ℕ, ◌<◌}
 use mathlib.Core.Path.{◌≡◌}
 use mathlib.Core.Bool.{false}
-use lib.ListN.{length}
 use Rattle.lists.specs.Lists.{lowest, found}
 use Rattle.rules.specs.Refusals.{same_set}
 use Rattle.cage.proofs.list.doubled.Given as goal
 
 abbrev pub invariant-loop-f : goal.invariant-loop-f
-invariant-loop-f l = (l.f ≤ length l.indices / 3) × ((j : ℕ) → j < l.f → found (lowest (same_set l.indices j) j) ≡ false)
-
-abbrev pub decreases-loop-f : goal.decreases-loop-f
-decreases-loop-f l = length l.indices / 3 - l.f
+invariant-loop-f l = (j : ℕ) → j < l.f → found (lowest (same_set l.indices j) j) ≡ false

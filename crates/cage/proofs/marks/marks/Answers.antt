@@ -1,4 +1,3 @@
-use borrow.Author.Count.{below_more}
 use native.Mathlib.Omega.{arith}
 use mathlib.Core.Path.{sym, ap, ◌∙◌}
 use Rattle.rules.specs.Mesh.{links}
@@ -7,18 +6,12 @@ use Rattle.limits.proofs.Search.{at}
 use Rattle.cage.proofs.SharpList.{told_here, told-nowhere}
 use Rattle.cage.proofs.marks.marks.Goals as goal
 
-pub loop-i-init : goal.loop-i-init
-loop-i-init c = (omega arith, λ j h. absurd (omega arith))
-
 pub returns-then-loose : goal.returns-then-loose
 returns-then-loose c = let a = c.args in
     let l = c.loop-i in
     c.no.ensures ∙ ap (at 18) c.place.ensures
-    ∙ sym (told_here (unlinked (links a.indices.now)) a.sharp.now l.i (omega arith) (sym c.loose.ensures ∙ c.if-loose.true) l.invariant.1)
-
-pub loop-i-preserved : goal.loop-i-preserved
-loop-i-preserved c = (omega arith, below_more _ _ c.loop-i.invariant.1 (sym c.loose.ensures ∙ c.if-loose.false))
+    ∙ sym (told_here (unlinked (links a.indices.now)) a.sharp.now l.i (omega arith) (sym c.loose.ensures ∙ c.if-loose.true) l.invariant)
 
 pub returns : goal.returns
 returns c = let a = c.args in
-    sym (told-nowhere (unlinked (links a.indices.now)) a.sharp.now (λ j h. c.loop-i.invariant.1 j (omega arith)))
+    sym (told-nowhere (unlinked (links a.indices.now)) a.sharp.now (λ j h. c.loop-i.invariant j (omega arith)))

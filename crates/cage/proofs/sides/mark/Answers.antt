@@ -63,33 +63,6 @@ loop-h-init c = let a = c.args in
       least-none fs a.u a.head a.low e,
     )
 
-pub end_of-b-requires : goal.end_of-b-requires
-end_of-b-requires c = (c.requires.sizes.0, omega (arith, c.loop-h.invariant.0, c.loop-h-test.true))
-
-pub overflow_cast-b : goal.overflow_cast-b
-overflow_cast-b c = omega (arith, room c.before)
-
-pub offset_bounds-marks-b : goal.offset_bounds-marks-b
-offset_bounds-marks-b c = omega (arith, room c.before)
-
-pub bounds-marks-b : goal.bounds-marks-b
-bounds-marks-b c = room c.before.before
-
-pub fresh-m-requires : goal.fresh-m-requires
-fresh-m-requires c = c.loop-h.invariant.3.below c.end_of-b.result
-
-pub offset_bounds-marks-b-in-loop-h : goal.offset_bounds-marks-b-in-loop-h
-offset_bounds-marks-b-in-loop-h c = omega (arith, room c.before.before.before.before)
-
-pub bounds-marks-b-in-loop-h : goal.bounds-marks-b-in-loop-h
-bounds-marks-b-in-loop-h c = room c.before.before.before.before
-
-pub offset_bounds-nexts-s : goal.offset_bounds-nexts-s
-offset_bounds-nexts-s c = omega (arith, c.loop-h.invariant.0)
-
-pub bounds-nexts-s : goal.bounds-nexts-s
-bounds-nexts-s c = omega (arith, c.requires.chain.0.room, c.loop-h.invariant.0, c.loop-h-test.true)
-
 pub loop-h-smaller : goal.loop-h-smaller
 loop-h-smaller c = let a = c.args in
     omega (arith, chain-le a.indices.now a.u c.loop-h.h _ (nxt c.before.before), c.loop-h-test.true)
@@ -116,11 +89,3 @@ loop-h-preserved c = let a = c.args in
       rw q (repeat-more fs l.marks b l.h r t v.0 e a.u l.seen o v.3 v.6),
       rw q (least_more fs l.marks b l.h r t v.0 e a.u m o n l.seen v.4 v.7),
     )
-
-pub shape_of-marks : goal.shape_of-marks
-shape_of-marks c = c.loop-h.invariant.2
-
-pub returns : goal.returns
-returns c = let v = c.loop-h.invariant in
-    let e : c.loop-h.h ≡ 0 = omega arith in
-    record { marks = (v.3, rw e at v.4); low = (v.5, v.6, rw e at v.7) }

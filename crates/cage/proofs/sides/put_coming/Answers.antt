@@ -30,9 +30,6 @@ side-below : (k : After-backward-t) → k.backward-t.result < length k.args.indi
 side-below k =
     rw k.backward-t.ensures (third_back k.args.indices.now k.requires.sizes.0 (k.loop-h.h - 1) (corner-below k.before))
 
-start-below : (k : After-backward-t) → corner k.args.indices.now k.backward-t.result < length k.args.marks.now
-start-below k = k.requires.sizes.1.each k.backward-t.result (side-below k)
-
 -- where its word stands
 word_room : (k : After-fresh-m) → k.args.at + k.backward-t.result < length k.loop-h.words
 word_room k = omega (arith, k.requires.sizes.2, side-below k.before.before.before, k.loop-h.invariant.2.size)
@@ -64,42 +61,6 @@ loop-h-init c = let a = c.args in
     let e = c.requires.chain.1 in
     (rw e (last-le (leaves fs a.u) (length fs)), chain-leaves fs a.u (length fs) a.head e, coming-none fs a.at a.u a.head a.words.now e)
 
-pub backward-t-requires : goal.backward-t-requires
-backward-t-requires c = omega (arith, third_back c.args.indices.now c.requires.sizes.0 (c.loop-h.h - 1) (corner-below c.before), c.requires.sizes.0.few)
-
-pub offset_bounds-indices-t : goal.offset_bounds-indices-t
-offset_bounds-indices-t c = omega (arith, side-below c.before, c.requires.sizes.0.few)
-
-pub bounds-indices-t : goal.bounds-indices-t
-bounds-indices-t c = side-below c.before.before
-
-pub overflow_cast-a : goal.overflow_cast-a
-overflow_cast-a c = omega (arith, start-below c.before.before)
-
-pub offset_bounds-marks-a : goal.offset_bounds-marks-a
-offset_bounds-marks-a c = omega (arith, start-below c.before.before)
-
-pub bounds-marks-a : goal.bounds-marks-a
-bounds-marks-a c = start-below c.before.before.before
-
-pub fresh-m-requires : goal.fresh-m-requires
-fresh-m-requires c = c.requires.marks.0.below (corner c.args.indices.now c.backward-t.result)
-
-pub overflow_add-words : goal.overflow_add-words
-overflow_add-words c = omega (arith, word_room c.before)
-
-pub offset_bounds-words-at : goal.offset_bounds-words-at
-offset_bounds-words-at c = omega (arith, word_room c.before)
-
-pub bounds-words-at : goal.bounds-words-at
-bounds-words-at c = word_room c.before
-
-pub offset_bounds-nexts-s : goal.offset_bounds-nexts-s
-offset_bounds-nexts-s c = omega (arith, c.loop-h.invariant.0)
-
-pub bounds-nexts-s : goal.bounds-nexts-s
-bounds-nexts-s c = omega (arith, c.requires.chain.0.room, corner-below c.before.before.before.before.before.before)
-
 pub loop-h-smaller : goal.loop-h-smaller
 loop-h-smaller c = let a = c.args in
     omega (arith, chain-le a.indices.now a.u c.loop-h.h _ (nxt c.before.before), c.loop-h-test.true)
@@ -117,10 +78,3 @@ loop-h-preserved c = let a = c.args in
       chain-leaves fs a.u (l.h - 1) m n,
       rw e (coming-more fs a.at a.u l.h m c.fresh-m.result a.words.now l.words t v.0 (v.1 t) n (rw e at (word_room c.before.before)) (word-is c.before.before) v.2),
     )
-
-pub shape_of-words : goal.shape_of-words
-shape_of-words c = c.loop-h.invariant.2.size
-
-pub returns : goal.returns
-returns c = let e : c.loop-h.h ≡ 0 = omega arith in
-    rw e at c.loop-h.invariant.2

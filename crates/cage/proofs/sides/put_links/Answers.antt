@@ -1,9 +1,8 @@
-use borrow.Author.Rules.{rules}
 use native.Mathlib.Omega.{arith}
 use Prim.Native.Nat.{ℕ, ◌≤◌, ◌<◌}
-use mathlib.Core.Path.{◌≡◌, refl, sym, ap, ◌∙◌}
+use mathlib.Core.Path.{◌≡◌, sym, ap, ◌∙◌}
 use mathlib.Core.List.{map}
-use lib.ListN.{length, length-set, get_or, take}
+use lib.ListN.{length, get_or, take}
 use lib.Seq.{sets, take-length}
 use Rattle.lists.proofs.Stores.{copy_at}
 use Rattle.rules.specs.Mesh.{onward, corner, links}
@@ -53,36 +52,21 @@ found-link k =
     let x = k.loop-s.s in
     let h = k.loop-s-test.true in
     k.seek-t.ensures
-    ∙ runs-from fs (corner fs (onward x)) (corner fs x) (length fs) (get_or k.args.heads.now k.end_of-b.result 0) (head k.before.before.before)
+    ∙ runs-from fs (corner fs (onward x)) (corner fs x) (length fs) (get_or k.args.heads.now k.end_of-b.result 0) (head k.before.before)
     ∙ sym (link-word fs k.requires.once.each x h) ∙ sym (coded-at fs x h)
 
-pub loop-s-init : goal.loop-s-init
-loop-s-init c = (omega arith, refl, refl)
-
-pub end_of-b-requires : goal.end_of-b-requires
-end_of-b-requires c = (c.requires.sizes.0, search rules)
-
-pub overflow_cast-b : goal.overflow_cast-b
-overflow_cast-b c = omega (arith, below c.before)
-
-pub offset_bounds-heads-b : goal.offset_bounds-heads-b
-offset_bounds-heads-b c = omega (arith, below c.before)
-
-pub bounds-heads-b : goal.bounds-heads-b
-bounds-heads-b c = below c.before.before
-
 pub seek-t-requires : goal.seek-t-requires
-seek-t-requires c = record { sizes = (c.requires.sizes.0, head-le c.before.before.before); nexts = c.requires.chains.1 }
+seek-t-requires c = record { sizes = (c.requires.sizes.0, head-le c.before.before); nexts = c.requires.chains.1 }
 
 pub loop-s-preserved : goal.loop-s-preserved
 loop-s-preserved c = let fs = c.args.indices.now in
     let l = c.loop-s in
     let t = c.loop-s-test.true in
     let h : l.s < length (map coded (links fs)) = rw (length-words fs) t in
-    (omega arith, rw length-set l.invariant.1, rw (l.invariant.2, found-link c.before) (copy_at c.args.words.now (map coded (links fs)) c.args.at l.s 0 h))
+    rw (l.invariant, found-link c.before) (copy_at c.args.words.now (map coded (links fs)) c.args.at l.s 0 h)
 
 pub returns : goal.returns
 returns c = let fs = c.args.indices.now in
     let l = c.loop-s in
     let e : length (map coded (links fs)) ≡ l.s = length-words fs ∙ omega arith in
-    l.invariant.2 ∙ ap (sets c.args.words.now c.args.at) (ap (λ (n : ℕ). take n (map coded (links fs))) (sym e) ∙ take-length (map coded (links fs)))
+    l.invariant ∙ ap (sets c.args.words.now c.args.at) (ap (λ (n : ℕ). take n (map coded (links fs))) (sym e) ∙ take-length (map coded (links fs)))

@@ -1,13 +1,9 @@
-use Prim.Native.Nat.{◌-◌, ◌≤◌}
 use mathlib.Core.Path.{◌≡◌}
 use mathlib.Core.List.{map}
-use lib.ListN.{length, take}
+use lib.ListN.{take}
 use lib.Seq.{sets}
 use Rattle.cage.specs.Chains.{before}
 use Rattle.cage.proofs.sides.put_starts.Given as goal
 
 abbrev pub invariant-loop-u : goal.invariant-loop-u
-invariant-loop-u l = (l.u ≤ l.v) × (length l.words ≡ length l.initial.words) × (l.words ≡ sets l.initial.words l.at (take l.u (map before (take l.v l.heads))))
-
-abbrev pub decreases-loop-u : goal.decreases-loop-u
-decreases-loop-u l = l.v - l.u
+invariant-loop-u l = l.words ≡ sets l.initial.words l.at (take l.u (map before (take l.v l.heads)))

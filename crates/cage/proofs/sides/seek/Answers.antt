@@ -47,20 +47,8 @@ nxt-le k =
     let a = k.args in
     rw (nxt k) (last-le (leaves a.indices.now (corner a.indices.now (a.head - 1))) (k.loop-h.h - 1))
 
-pub loop-h-init : goal.loop-h-init
-loop-h-init c = (omega arith, refl, λ l. refl)
-
-pub end_of-requires : goal.end_of-requires
-end_of-requires c = (c.requires.sizes.0, omega (arith, c.requires.sizes))
-
 pub returns-then-end_of-b : goal.returns-then-end_of-b
 returns-then-end_of-b c = sym (turn c.before.before ∙ rw (eq-eqb _ _ (sym c.if-end_of-b.true ∙ c.end_of.ensures)))
-
-pub offset_bounds-nexts-k : goal.offset_bounds-nexts-k
-offset_bounds-nexts-k c = omega (arith, c.requires.sizes)
-
-pub bounds-nexts-k : goal.bounds-nexts-k
-bounds-nexts-k c = omega (arith, c.requires.nexts.room, c.requires.sizes.1)
 
 pub loop-h-smaller : goal.loop-h-smaller
 loop-h-smaller c = omega (arith, nxt-le c.before.before.before)

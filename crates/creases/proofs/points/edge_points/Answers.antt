@@ -47,11 +47,6 @@ overflow_mul-nf c = let a = c.args in
     let r = c.requires in
     omega (arith, r.mesh.movable.small, room_of_lem a.words.now a.at a.nf a.nv r.mesh.movable)
 
-pub overflow_mul-nf-in-loop-s : goal.overflow_mul-nf-in-loop-s
-overflow_mul-nf-in-loop-s c = let a = c.args in
-    let r = c.requires in
-    omega (arith, r.mesh.movable.small, room_of_lem a.words.now a.at a.nf a.nv r.mesh.movable)
-
 pub overflow_add-at : goal.overflow_add-at
 overflow_add-at c = let a = c.args in
     let r = c.requires in
@@ -118,9 +113,6 @@ overflow_add-k c = let a = c.args in
     let r = c.requires in
     let l = c.loop-s in
     omega (arith, r.room.new, l.invariant.1.0, fits c.before.before.before.before.before)
-
-pub overflow_add-s : goal.overflow_add-s
-overflow_add-s c = omega (arith, c.requires.mesh.movable.small)
 
 pub loop-s-preserved : goal.loop-s-preserved
 loop-s-preserved c = let a = c.args in

@@ -1,4 +1,4 @@
-use Prim.Native.Nat.{◌+◌, ◌-◌, ◌*◌, ◌≤◌}
+use Prim.Native.Nat.{◌+◌, ◌*◌, ◌≤◌}
 use mathlib.Core.Path.{◌≡◌}
 use lib.ListN.{length}
 use lib.Seq.{sets}
@@ -10,6 +10,3 @@ use Rattle.creases.proofs.points.edge_points.Given as goal
 
 abbrev pub invariant-loop-s : goal.invariant-loop-s
 invariant-loop-s l = (l.s ≤ 3 * l.nf) × ((length l.work ≡ length l.initial.work) × ((l.k ≡ length (keep (first_met (links (part l.at (3 * l.nf) l.words))) (count 0 l.s))) × (l.work ≡ sets l.initial.work (l.to + 3 * l.nv) (gather (sharp_edge_at whole l.words l.at l.marks l.nf (part l.from (3 * l.nv) l.initial.work)) (keep (first_met (links (part l.at (3 * l.nf) l.words))) (count 0 l.s))))))
-
-abbrev pub decreases-loop-s : goal.decreases-loop-s
-decreases-loop-s l = 3 * l.nf - l.s

@@ -1,4 +1,4 @@
-use Prim.Native.Nat.{◌-◌, ◌*◌, ◌≤◌}
+use Prim.Native.Nat.{◌*◌, ◌≤◌}
 use mathlib.Core.Path.{◌≡◌}
 use lib.ListN.{length}
 use lib.Seq.{sets}
@@ -9,6 +9,3 @@ use Rattle.creases.proofs.points.old_points.Given as goal
 
 abbrev pub invariant-loop-u : goal.invariant-loop-u
 invariant-loop-u l = (l.u ≤ l.nv) × ((length l.work ≡ length l.initial.work) × (l.work ≡ sets l.initial.work l.to (gather (sharp_old whole l.words l.at l.marks l.nf (part l.from (3 * l.nv) l.initial.work) l.nv) (count 0 l.u))))
-
-abbrev pub decreases-loop-u : goal.decreases-loop-u
-decreases-loop-u l = l.nv - l.u

@@ -1,6 +1,7 @@
 use mathlib.Core.Path.{◌≡◌, refl, sym, ap, ap₂, ◌∙◌}
 use mathlib.Core.Bool.{Bool}
 use Prim.Native.Nat.{ℕ, suc, ◌+◌, ◌*◌, ◌/◌, ◌%◌}
+use mathlib.Core.Logic.{inl, inr}
 use native.Mathlib.Omega.{arith}
 use native.Mathlib.Numerals.{add-one}
 use mathlib.Core.List.{List}
@@ -24,7 +25,6 @@ use Rattle.creases.proofs.rings.sharp_back.Lts
 use Rattle.creases.proofs.rings.sharp_back.Reads
 use Rattle.creases.proofs.rings.sharp_back.Tie
 use Rattle.creases.proofs.rings.sharp_back.Goals as goal
-use Rattle.creases.proofs.rings.sharp_back.Goals.{in-Home, in-Off}
 
 abbrev After-backward-c : Type 0
 After-backward-c = Lts.After-backward Tie.the-claims Reads.Pre Reads.Post goal.the-invariant-loop-t goal.the-decreases-loop-t Tie.handed_clauses
@@ -137,14 +137,10 @@ loop-t-preserved c = let a = c.args in
       tallied-on c.before.before,
     )
 
-pub overflow_add-result : goal.overflow_add-result
-overflow_add-result c = let l = c.loop-t in omega (arith, l.invariant.1, c.requires.2.few)
-
-pub shape_of-out : goal.shape_of-out
-shape_of-out c = same c.before.before
-
-pub returns : goal.returns
-returns c = let a = c.args in
+-- the walk is over, and all of them are stored
+pub returns-in-Home : goal.returns-in-Home
+returns-in-Home c = let k = c.before.before in
+    let a = c.args in
     let p = c.requires in
     let l = c.loop-t in
     let w = a.words.now in
@@ -152,12 +148,13 @@ returns c = let a = c.args in
     let cs = passed (walk next a.q (here a.s)) in
     let fs = part a.corners (3 * a.nf) w in
     let q : suc l.n ≡ length cs =
-    elim c.match-prev_corner.branch [
-      | in-Home m ↦ (
-          then-home next a.q a.s p.2.stops l.n l.at l.invariant.1 l.invariant.2 (stepped c.before.before ∙ m.in-Home.is)
-          )
-      | in-Off m ↦ (
-          then-off next a.q a.s p.2.stops l.n l.at l.invariant.1 l.invariant.2 (stepped c.before.before ∙ m.in-Off.is)
-          )
+    elim c.in-Home.is [
+      | inl h ↦ then-home next a.q a.s p.2.stops l.n l.at l.invariant.1 l.invariant.2 (stepped k ∙ h)
+      | inr h ↦ then-off next a.q a.s p.2.stops l.n l.at l.invariant.1 l.invariant.2 (stepped k ∙ h)
     ] in
-    let e : l.n + 1 ≡ length (backs fs cs) = omega (arith, length-map cs (λ s. corner fs (backward s))) in record { count = ap (λ (z : ℕ). a.from + z) e; sharp = tallied-on c.before.before ∙ ap (λ (x : List ℕ). tally (comes (marks_in w a.marks a.nf)) x) (take_all (l.n + 1) cs (omega arith)); ring = stored c.before.before.before.before.before ∙ store-all a.out.now (backs fs cs) a.from (l.n + 1) e }
+    let e : l.n + 1 ≡ length (backs fs cs) = omega (arith, length-map cs (λ s. corner fs (backward s))) in
+    record {
+      count = ap (λ (z : ℕ). a.from + z) e;
+      sharp = tallied-on k ∙ ap (λ (x : List ℕ). tally (comes (marks_in w a.marks a.nf)) x) (take_all (l.n + 1) cs (omega arith));
+      ring = stored k.before.before.before ∙ store-all a.out.now (backs fs cs) a.from (l.n + 1) e;
+    }

@@ -9,14 +9,14 @@ use lib.Seq.{sets}
 use Rattle.lists.specs.Lists.{part, pick, keep}
 use Rattle.lists.proofs.Stores.{get_d_part}
 use Rattle.rules.specs.Sharp.{sharp}
-use Rattle.rules.specs.Mesh.{onward, corner, here, Stop, closed, ended, long, walk, passed, stop_of, next_corner}
+use Rattle.rules.specs.Mesh.{onward, corner, here, Stop, closed, ended, long, walk, passed, next_corner}
 use Rattle.rules.proofs.Sides.{on_below}
 use Rattle.faces.specs.Words.{links_in}
 use Rattle.faces.specs.Rings.{step_of, trip_by, trip_of, inners}
 use Rattle.faces.specs.declared.walks.Trip.TheVariants as trip
 use Rattle.faces.proofs.Links.{next-at, next-below}
 use Rattle.faces.proofs.Trails.{some-passed, filled, from-corner, then-here, then-home, then-off}
-use Rattle.faces.proofs.Trips.{first-passed, trip_from, trip_on, trip-starts, trip-turn, trip-long}
+use Rattle.faces.proofs.Trips.{first-passed, trip_from, trip_on, trip-starts, trip-turn}
 use Rattle.faces.proofs.Gathered.{store-more, store-all, inner-at}
 use Rattle.marks.specs.Marks.{marks_in}
 use Rattle.marks.proofs.Marks.{mark-at}
@@ -160,12 +160,6 @@ met-whole k q =
     let cs = passed (walk (next_corner (links_in w a.links (3 * a.nf)) a.s) a.nf (here a.s)) in
     met-on k ∙ met_all (part a.corners (3 * a.nf) w) cs (sharp (marks_in w a.marks a.nf)) (l.n + 1) (omega arith)
 
--- a walk that ends is not cut short
-not-cut : (st : Stop) (a b : ℕ) → trip_by st a b ≡ trip.Long → st ≡ long
-not-cut closed a b q = absurd (let z : ◌≡◌ {A = ℕ} 0 1 = cc in omega arith)
-not-cut ended a b q = absurd (let z : ◌≡◌ {A = ℕ} 0 1 = cc in omega arith)
-not-cut long a b q = refl
-
 pub loop-n-preserved : goal.loop-n-preserved
 loop-n-preserved c = let a = c.args in
     let p = c.requires in
@@ -182,16 +176,6 @@ loop-n-preserved c = let a = c.args in
       stored c.before.before.before.before,
       met-on c.before.before,
     )
-
-pub shape_of-out-then-n-nf : goal.shape_of-out-then-n-nf
-shape_of-out-then-n-nf c = c.loop-n.invariant.5
-
-pub returns-then-n-nf : goal.returns-then-n-nf
-returns-then-n-nf c = let a = c.args in
-    let l = c.loop-n in
-    let next = next_corner (links_in a.words.now a.links (3 * a.nf)) a.s in
-    let w = walk next a.nf (here a.s) in
-    absurd (c.requires.few.stops (not-cut (stop_of w) _ _ (l.invariant.2 ∙ trip-long next a.nf l.n l.at c.if-n-nf.true)))
 
 pub shape_of-out-in-Home : goal.shape_of-out-in-Home
 shape_of-out-in-Home c = same c.before.before

@@ -1,6 +1,7 @@
 use mathlib.Core.Path.{◌≡◌, refl, sym, ap, ◌∙◌}
 use Prim.Native.Nat.{ℕ, suc, ◌+◌, ◌-◌, ◌*◌, ◌<◌}
 use native.Mathlib.Omega.{arith}
+use mathlib.Core.Logic.{inl, inr}
 use native.Mathlib.Numerals.{add-one}
 use mathlib.Core.List.{List}
 use lib.ListN.{length, get_or, set, take, length-map, length-set}
@@ -18,7 +19,6 @@ use Rattle.faces.proofs.rings.gather_back.Lts
 use Rattle.faces.proofs.rings.gather_back.Reads
 use Rattle.faces.proofs.rings.gather_back.Tie
 use Rattle.faces.proofs.rings.gather_back.Goals as goal
-use Rattle.faces.proofs.rings.gather_back.Goals.{in-Home, in-Off}
 
 abbrev After-backward : Type 0
 After-backward = Lts.After-backward Tie.the-claims Reads.Pre Reads.Post goal.the-invariant-loop-t goal.the-decreases-loop-t Tie.handed_clauses
@@ -100,25 +100,19 @@ loop-t-preserved c = let k = c.before.before in
       stored k.before.before,
     )
 
-pub overflow_add-result : goal.overflow_add-result
-overflow_add-result c = let l = c.loop-t in omega (arith, l.invariant.1, c.requires.2.few)
-
-pub shape_of-out : goal.shape_of-out
-shape_of-out c = same c.before.before
-
-pub returns : goal.returns
-returns c = let k = c.before.before in
+-- the walk is over, and all of them are stored
+pub returns-in-Home : goal.returns-in-Home
+returns-in-Home c = let k = c.before.before in
     let a = k.args in
     let p = k.requires in
     let l = k.loop-t in
-    let w = a.words.now in
-    let next = prev_corner (links_in w a.links (3 * a.nf)) a.end in
+    let next = prev_corner (links_in a.words.now a.links (3 * a.nf)) a.end in
     let cs = passed (walk next (a.nf + 1 - a.from) (here a.s)) in
-    let fs = part a.corners (3 * a.nf) w in
+    let fs = part a.corners (3 * a.nf) a.words.now in
     let q : suc l.n ≡ length cs =
-    elim c.match-prev_corner.branch [
-      | in-Home m ↦ then-home next (a.nf + 1 - a.from) a.s p.2.stops l.n l.at l.invariant.1 l.invariant.2 (stepped k ∙ m.in-Home.is)
-      | in-Off m ↦ then-off next (a.nf + 1 - a.from) a.s p.2.stops l.n l.at l.invariant.1 l.invariant.2 (stepped k ∙ m.in-Off.is)
+    elim c.in-Home.is [
+      | inl h ↦ then-home next (a.nf + 1 - a.from) a.s p.2.stops l.n l.at l.invariant.1 l.invariant.2 (stepped k ∙ h)
+      | inr h ↦ then-off next (a.nf + 1 - a.from) a.s p.2.stops l.n l.at l.invariant.1 l.invariant.2 (stepped k ∙ h)
     ] in
     let e : l.n + 1 ≡ length (backs fs cs) = omega (arith, length-map cs (λ s. corner fs (backward s))) in
     record { count = ap (λ (z : ℕ). a.from + z) e; ring = stored k.before.before ∙ store-all a.out.now (backs fs cs) a.from (l.n + 1) e }

@@ -6,13 +6,13 @@ use mathlib.Core.List.{List}
 use lib.ListN.{length, set, take, length-map, length-set}
 use lib.Seq.{sets}
 use Rattle.lists.specs.Lists.{part}
-use Rattle.rules.specs.Mesh.{onward, corner, here, Stop, closed, ended, long, walk, passed, stop_of, next_corner}
+use Rattle.rules.specs.Mesh.{onward, corner, here, Stop, closed, ended, long, walk, passed, next_corner}
 use Rattle.faces.specs.Words.{links_in}
 use Rattle.faces.specs.Rings.{step_of, trip_by, trip_of, inners}
 use Rattle.faces.specs.declared.walks.Trip.TheVariants as trip
 use Rattle.faces.proofs.Links.{next-at, next-below}
 use Rattle.faces.proofs.Trails.{some-passed, filled, from-corner, then-here, then-home, then-off}
-use Rattle.faces.proofs.Trips.{first-passed, trip_from, trip_on, trip-starts, trip-turn, trip-long}
+use Rattle.faces.proofs.Trips.{first-passed, trip_from, trip_on, trip-starts, trip-turn}
 use Rattle.faces.proofs.Gathered.{store-more, store-all, inner-at}
 use Rattle.faces.proofs.rings.gather_on.Lts
 use Rattle.faces.proofs.rings.gather_on.Reads
@@ -107,12 +107,6 @@ same :
     length (set l.out l.n k.next_vert_at.result) ≡ length k.args.out.now)
 same k = let l = k.loop-n in length-set l.out l.n k.next_vert_at.result ∙ l.invariant.5
 
--- a walk that ends is not cut short
-not-cut : (st : Stop) (a b : ℕ) → trip_by st a b ≡ trip.Long → st ≡ long
-not-cut closed a b q = absurd (let z : ◌≡◌ {A = ℕ} 0 1 = cc in omega arith)
-not-cut ended a b q = absurd (let z : ◌≡◌ {A = ℕ} 0 1 = cc in omega arith)
-not-cut long a b q = refl
-
 pub loop-n-preserved : goal.loop-n-preserved
 loop-n-preserved c = let k = c.before.before in
     let a = k.args in
@@ -129,16 +123,6 @@ loop-n-preserved c = let k = c.before.before in
       same k,
       stored k.before,
     )
-
-pub shape_of-out-then-n-nf : goal.shape_of-out-then-n-nf
-shape_of-out-then-n-nf c = c.loop-n.invariant.5
-
-pub returns-then-n-nf : goal.returns-then-n-nf
-returns-then-n-nf c = let a = c.args in
-    let l = c.loop-n in
-    let next = next_corner (links_in a.words.now a.links (3 * a.nf)) a.s in
-    let w = walk next a.nf (here a.s) in
-    absurd (c.requires.few.stops (not-cut (stop_of w) _ _ (l.invariant.2 ∙ trip-long next a.nf l.n l.at c.if-n-nf.true)))
 
 pub shape_of-out-in-Home : goal.shape_of-out-in-Home
 shape_of-out-in-Home c = same c.before.before

@@ -15,6 +15,3 @@ invariant-loop-n l = (let next = next_corner (links_in l.words l.links (3 * l.nf
     let cs = passed (walk next l.nf (here l.s)) in
     (l.at < 3 * l.nf) × (l.n ≤ l.nf) × (trip_of (walk next l.nf (here l.s)) ≡ trip_from l.n 0 (walk next (l.nf - l.n) (here l.at))) ×
     (l.n < length cs) × (l.at ≡ get_or cs l.n 0) × (length l.out ≡ length l.initial.out) × (l.out ≡ sets l.initial.out 0 (take l.n (inners (part l.corners (3 * l.nf) l.words) cs))))
-
-abbrev pub decreases-loop-n : goal.decreases-loop-n
-decreases-loop-n l = l.nf - l.n

@@ -1,143 +1,73 @@
-use Prim.Native.Nat.{◌*◌, ◌<◌}
-use mathlib.Core.Path.{◌≡◌, refl, sym, ap, ◌∙◌}
-use mathlib.Core.Bool.{true}
+use Prim.Native.Nat.{ℕ, ◌+◌, ◌*◌, ◌<◌}
+use mathlib.Core.Path.{◌≡◌, sym, ◌∙◌}
+use mathlib.Core.Bool.{Bool, true}
+use mathlib.Core.List.{List}
 use native.Mathlib.Omega.{arith}
-use lib.ListN.{length}
-use lib.Seq.{length-sets}
-use Rattle.lists.specs.Lists.{part}
-use Rattle.rules.specs.Mesh.{links, first_met}
-use Rattle.rules.specs.Position.{single}
-use Rattle.weights.specs.Lent.{listed}
-use Rattle.levels.specs.Moves.{edges_in}
-use Rattle.levels.proofs.Moves.{sides-long, room_of_lem, test-is, edge-room, edge_same, edge_count, edge_more, edges-all}
-use Rattle.levels.proofs.points.edge_points.Lts
-use Rattle.levels.proofs.points.edge_points.Reads
-use Rattle.levels.proofs.points.edge_points.Tie
+use lib.ListN.{length, get_or}
+use Rattle.lists.specs.Lists.{count, keep, part}
+use Rattle.rules.specs.Mesh.{links, is_first, first_met}
+use Rattle.faces.specs.Words.{link_of}
+use Rattle.rules.specs.Position.{Numbers, numbers_of}
+use Rattle.levels.specs.Moves.{Movable, Placed, edges_in}
+use Rattle.levels.proofs.Moves.{sides-long, test-is, edge-room, edge_kept, edge_same, edge_count, edge_more}
 use Rattle.levels.proofs.points.edge_points.Goals as goal
 use Rattle.levels.proofs.points.edge_points.Goals.{then-first_met, else-first_met}
 
-abbrev After-first_met : Type 0
-After-first_met = Lts.After-first_met Tie.the-claims Reads.Pre Reads.Post goal.the-invariant-loop-s goal.the-decreases-loop-s Tie.handed_clauses
-
-abbrev Then-first_met : Type 0
-Then-first_met = Lts.Then1 Tie.the-claims Reads.Pre Reads.Post goal.the-invariant-loop-s goal.the-decreases-loop-s Tie.handed_clauses
-
--- the test, and that there is room where it holds
-test : (c : After-first_met) → c.first_met.result ≡ first_met (links (part c.args.at (3 * c.args.nf) c.args.words.now)) c.loop-s.s
-test c =
-    let a = c.args in
-    let r = c.requires in
-    let l = c.loop-s in
-    c.first_met.ensures ∙ test-is a.words.now a.at a.nf a.nv r.mesh l.s (omega arith)
-
-fits : (c : Then-first_met) → c.loop-s.k < edges_in c.args.words.now c.args.at c.args.nf
-fits c =
-    let a = c.args in
-    let r = c.requires in
-    let l = c.loop-s in
-    let h = edge-room single a.words.now a.at a.nf a.nv a.work.now a.from a.to r.room (sides-long a.words.now a.at a.nf a.nv r.mesh) l.s (omega arith) (sym (test c.before) ∙ c.if-first_met.true) in
-    omega (arith, l.invariant.1.1.0)
-
-pub loop-s-init : goal.loop-s-init
-loop-s-init c = (omega arith, (refl, (refl, refl)))
-
-pub overflow_mul-nf : goal.overflow_mul-nf
-overflow_mul-nf c = let a = c.args in
-    let r = c.requires in
-    omega (arith, r.mesh.small, room_of_lem a.words.now a.at a.nf a.nv r.mesh)
-
-pub overflow_mul-nf-in-loop-s : goal.overflow_mul-nf-in-loop-s
-overflow_mul-nf-in-loop-s c = let a = c.args in
-    let r = c.requires in
-    omega (arith, r.mesh.small, room_of_lem a.words.now a.at a.nf a.nv r.mesh)
-
-pub overflow_add-at : goal.overflow_add-at
-overflow_add-at c = let a = c.args in
-    let r = c.requires in
-    omega (arith, r.mesh.small, room_of_lem a.words.now a.at a.nf a.nv r.mesh)
-
-pub overflow_add-at-in-loop-s : goal.overflow_add-at-in-loop-s
-overflow_add-at-in-loop-s c = let a = c.args in
-    let r = c.requires in
-    omega (arith, r.mesh.small, room_of_lem a.words.now a.at a.nf a.nv r.mesh)
-
-pub offset_bounds-words-at : goal.offset_bounds-words-at
-offset_bounds-words-at c = let a = c.args in
-    let r = c.requires in
-    omega (arith, r.mesh.small, room_of_lem a.words.now a.at a.nf a.nv r.mesh)
-
-pub bounds-words-at : goal.bounds-words-at
-bounds-words-at c = let a = c.args in
-    let r = c.requires in
-    omega (arith, r.mesh.small, room_of_lem a.words.now a.at a.nf a.nv r.mesh)
-
-pub overflow_cast-s : goal.overflow_cast-s
-overflow_cast-s c = let a = c.args in
-    let r = c.requires in
-    omega (arith, r.mesh.small, room_of_lem a.words.now a.at a.nf a.nv r.mesh)
+-- where the test holds there is room
+fits : (𝓝 : Numbers) (w : List ℕ) (at n v from to : ℕ) (work : List 𝓝.N) (s : ℕ) {k : ℕ} {b : Bool} → Movable w at n v → Placed (length work) from to v (edges_in w at n) → s < 3 * n →
+    k ≡ length (keep (first_met (links (part at (3 * n) w))) (count 0 s)) → b ≡ is_first s (link_of (get_or w (at + 3 * n + s) 0)) → b ≡ true → k < edges_in w at n
+fits 𝓝 w at n v from to work s m p h e t y =
+    let room = edge-room 𝓝 w at n v work from to p (sides-long w at n v m) s h (sym (t ∙ test-is w at n v m s h) ∙ y) in
+    omega (arith, e)
 
 pub edge_point-p-requires : goal.edge_point-p-requires
-edge_point-p-requires c = let a = c.args in
+edge_point-p-requires g c = let a = c.args in
     let r = c.requires in
     let l = c.loop-s in
-    record { mesh = (r.mesh, omega arith); room = omega (arith, r.room.old, l.invariant.1.0) }
-
-pub overflow_mul-nv : goal.overflow_mul-nv
-overflow_mul-nv c = let a = c.args in
-    let r = c.requires in
-    let l = c.loop-s in
-    omega (arith, r.room.new, l.invariant.1.0, fits c.before.before.before)
+    record { mesh = (r.mesh, omega arith); room = omega (arith, r.room.old); near = rw (edge_kept (numbers_of g.N.Number.on) a.words.now a.at a.nf a.nv a.work.now a.from a.to r.room (sides-long a.words.now a.at a.nf a.nv r.mesh) l.s (omega arith) l.work l.invariant.1) r.near }
 
 pub overflow_add-to : goal.overflow_add-to
-overflow_add-to c = let a = c.args in
+overflow_add-to g c = let a = c.args in
     let r = c.requires in
     let l = c.loop-s in
-    omega (arith, r.room.new, l.invariant.1.0, fits c.before.before.before)
+    omega (arith, r.room.new, fits (numbers_of g.N.Number.on) a.words.now a.at a.nf a.nv a.from a.to a.work.now l.s r.mesh r.room (omega arith) l.invariant.0 c.first_met.ensures c.if-first_met.true)
 
 pub overflow_mul-k : goal.overflow_mul-k
-overflow_mul-k c = let a = c.args in
+overflow_mul-k g c = let a = c.args in
     let r = c.requires in
     let l = c.loop-s in
-    omega (arith, r.room.new, l.invariant.1.0, fits c.before.before.before)
+    omega (arith, r.room.new, fits (numbers_of g.N.Number.on) a.words.now a.at a.nf a.nv a.from a.to a.work.now l.s r.mesh r.room (omega arith) l.invariant.0 c.first_met.ensures c.if-first_met.true)
 
 pub overflow_add-to-then-first_met : goal.overflow_add-to-then-first_met
-overflow_add-to-then-first_met c = let a = c.args in
+overflow_add-to-then-first_met g c = let a = c.args in
     let r = c.requires in
     let l = c.loop-s in
-    omega (arith, r.room.new, l.invariant.1.0, fits c.before.before.before)
+    omega (arith, r.room.new, fits (numbers_of g.N.Number.on) a.words.now a.at a.nf a.nv a.from a.to a.work.now l.s r.mesh r.room (omega arith) l.invariant.0 c.first_met.ensures c.if-first_met.true)
 
 pub put-requires : goal.put-requires
-put-requires c = let a = c.args in
+put-requires g c = let a = c.args in
     let r = c.requires in
     let l = c.loop-s in
-    omega (arith, r.room.new, l.invariant.1.0, fits c.before.before.before)
+    (omega (arith, r.room.new, fits (numbers_of g.N.Number.on) a.words.now a.at a.nf a.nv a.from a.to a.work.now l.s r.mesh r.room (omega arith) l.invariant.0 c.first_met.ensures c.if-first_met.true), c.edge_point-p.ensures.near)
 
 pub overflow_add-k : goal.overflow_add-k
-overflow_add-k c = let a = c.args in
+overflow_add-k g c = let a = c.args in
     let r = c.requires in
     let l = c.loop-s in
-    omega (arith, r.room.new, l.invariant.1.0, fits c.before.before.before.before.before.before)
-
-pub overflow_add-s : goal.overflow_add-s
-overflow_add-s c = omega (arith, c.requires.mesh.small)
+    omega (arith, r.room.new, fits (numbers_of g.N.Number.on) a.words.now a.at a.nf a.nv a.from a.to a.work.now l.s r.mesh r.room (omega arith) l.invariant.0 c.first_met.ensures c.if-first_met.true)
 
 pub loop-s-preserved : goal.loop-s-preserved
-loop-s-preserved c = let a = c.args in
+loop-s-preserved g c = let a = c.args in
     let r = c.requires in
     let l = c.loop-s in
     let h : l.s < 3 * a.nf = omega arith in
+    let test = c.first_met.ensures ∙ test-is a.words.now a.at a.nf a.nv r.mesh l.s h in
     elim c.if-first_met.branch [
       | then-first_met came ↦ (
-          let t : first_met (links (part a.at (3 * a.nf) a.words.now)) l.s ≡ true = sym (test c.before.before) ∙ came.if-first_met.true in
-          let e = edge_more single a.words.now a.at a.nf a.nv a.work.now a.from a.to r.room (sides-long a.words.now a.at a.nf a.nv r.mesh) l.s h l.work l.invariant.1.1.1 c.if-first_met.work (listed came.edge_point-p.result) l.k t l.invariant.1.1.0 (came.work-is ∙ came.put.ensures) came.edge_point-p.ensures in
-          (omega arith, (ap length e ∙ simp length-sets, (came.k-is ∙ omega (arith, l.invariant.1.1.0, edge_count single a.words.now a.at a.nf a.nv a.work.now a.from a.to r.room (sides-long a.words.now a.at a.nf a.nv r.mesh) l.s h t), e))))
+          let t : first_met (links (part a.at (3 * a.nf) a.words.now)) l.s ≡ true = sym test ∙ came.if-first_met.true in
+          let e = edge_more (numbers_of g.N.Number.on) a.words.now a.at a.nf a.nv a.work.now a.from a.to r.room (sides-long a.words.now a.at a.nf a.nv r.mesh) l.s h l.work l.invariant.1 c.if-first_met.work (g.N.Weighed.listed came.edge_point-p.result) l.k t l.invariant.0 (came.work-is ∙ came.put.ensures) came.edge_point-p.ensures.point in
+          (came.k-is ∙ omega (arith, l.invariant.0, edge_count (numbers_of g.N.Number.on) a.words.now a.at a.nf a.nv a.work.now a.from a.to r.room (sides-long a.words.now a.at a.nf a.nv r.mesh) l.s h t), e))
       | else-first_met came ↦ (
-          let e = edge_same single a.words.now a.at a.nf a.nv a.work.now a.from a.to r.room (sides-long a.words.now a.at a.nf a.nv r.mesh) l.s h (sym (test c.before.before) ∙ came.if-first_met.false) in
-          (omega arith, (rw came.work-is l.invariant.1.0, rw e (came.k-is ∙ l.invariant.1.1.0, came.work-is ∙ l.invariant.1.1.1))))
+          let e = edge_same (numbers_of g.N.Number.on) a.words.now a.at a.nf a.nv a.work.now a.from a.to r.room (sides-long a.words.now a.at a.nf a.nv r.mesh) l.s h (sym test ∙ came.if-first_met.false) in
+          rw e (came.k-is ∙ l.invariant.0, came.work-is ∙ l.invariant.1))
     ]
-
-pub returns : goal.returns
-returns c = let a = c.args in
-    let r = c.requires in
-    let e : c.loop-s.s ≡ 3 * a.nf = omega arith in
-    c.loop-s.invariant.1.1.1 ∙ rw e (edges-all single a.words.now a.at a.nf a.nv a.work.now a.from a.to r.room (sides-long a.words.now a.at a.nf a.nv r.mesh))

@@ -1,12 +1,9 @@
-use Prim.Native.Nat.{ℕ, ◌-◌, ◌≤◌, ◌<◌}
+use Prim.Native.Nat.{ℕ, ◌<◌}
 use mathlib.Core.Path.{◌≡◌}
 use mathlib.Core.Bool.{false}
-use lib.ListN.{length, get_or}
+use lib.ListN.{get_or}
 use lib.Dec.{leb}
 use Rattle.limits.proofs.list.beyond.Given as goal
 
 abbrev pub invariant-loop-i : goal.invariant-loop-i
-invariant-loop-i l = (l.i ≤ length l.indices) × ((j : ℕ) → j < l.i → leb l.v (get_or l.indices j 0) ≡ false)
-
-abbrev pub decreases-loop-i : goal.decreases-loop-i
-decreases-loop-i l = length l.indices - l.i
+invariant-loop-i l = (j : ℕ) → j < l.i → leb l.v (get_or l.indices j 0) ≡ false

@@ -1,11 +1,10 @@
 use native.Mathlib.Omega.{arith}
-use Prim.Native.Nat.{ℕ, ◌≤◌}
-use mathlib.Core.Path.{◌≡◌, refl, sym, ap, ◌∙◌}
+use Prim.Native.Nat.{◌≤◌}
+use mathlib.Core.Path.{sym}
 use mathlib.Core.Bool.{not}
 use lib.ListN.{get_or}
 use Rattle.lists.specs.Lists.{found}
-use Rattle.rules.specs.Mesh.{rims}
-use Rattle.faces.specs.Words.{link_of, links_in}
+use Rattle.faces.specs.Words.{link_of}
 use Rattle.limits.proofs.Sizes.{rim-more, bit_le}
 use Rattle.limits.proofs.size.count_rims.Lts
 use Rattle.limits.proofs.size.count_rims.Reads
@@ -18,17 +17,6 @@ After-rim_at-r = Lts.After-rim_at Tie.the-claims Reads.Pre Reads.Post goal.the-i
 few : (k : After-rim_at-r) → k.rim_at-r.result ≤ 1
 few k = rw k.rim_at-r.ensures (bit_le (not (found (link_of (get_or k.args.words.now k.loop-s.s 0)))))
 
-pub loop-s-init : goal.loop-s-init
-loop-s-init c = (omega arith, omega arith, refl)
-
-pub overflow_add-r : goal.overflow_add-r
-overflow_add-r c = omega (arith, few c.before)
-
 pub loop-s-preserved : goal.loop-s-preserved
 loop-s-preserved c = let l = c.loop-s in
-    (omega arith, omega (arith, few c.before), rw (l.invariant.2, c.rim_at-r.ensures) (sym (rim-more c.args.words.now l.s (omega (arith, c.requires, c.loop-s-test.true)))))
-
-pub returns : goal.returns
-returns c = let l = c.loop-s in
-    let e : l.s ≡ c.args.n = omega arith in
-    l.invariant.2 ∙ ap (λ (n : ℕ). rims (links_in c.args.words.now 0 n)) e
+    (omega (arith, few c.before), rw (l.invariant.1, c.rim_at-r.ensures) (sym (rim-more c.args.words.now l.s (omega (arith, c.requires, c.loop-s-test.true)))))

@@ -1,6 +1,7 @@
 use mathlib.Core.Path.{◌≡◌, refl, sym, ap, ap₂, ◌∙◌}
 use mathlib.Core.Bool.{Bool}
 use Prim.Native.Nat.{ℕ, suc, ◌+◌, ◌*◌}
+use mathlib.Core.Logic.{inl, inr}
 use native.Mathlib.Omega.{arith}
 use native.Mathlib.Numerals.{add-one}
 use mathlib.Core.List.{List}
@@ -123,16 +124,15 @@ loop-t-preserved c = let l = c.loop-t in
       met-on c.before.before.before,
     )
 
+-- the walk is over, and all of them are stored
 pub returns-in-Home : goal.returns-in-Home
-returns-in-Home c = let l = c.loop-t in
-    let a = c.args in
+returns-in-Home c = let a = c.args in
+    let l = c.loop-t in
     let next = next_corner (links (part a.at (3 * a.nf) a.words.now)) a.s in
-    let e = ended c.before.before.before (then-home next a.nf a.s c.requires.2.stops l.n l.x l.invariant.1 l.invariant.2 (sym c.next_corner.ensures ∙ c.in-Home.is)) in
-    record { ring = e.0; out = e.1 }
-
-pub returns-in-Off : goal.returns-in-Off
-returns-in-Off c = let l = c.loop-t in
-    let a = c.args in
-    let next = next_corner (links (part a.at (3 * a.nf) a.words.now)) a.s in
-    let e = ended c.before.before.before (then-off next a.nf a.s c.requires.2.stops l.n l.x l.invariant.1 l.invariant.2 (sym c.next_corner.ensures ∙ c.in-Off.is)) in
+    let q : suc l.n ≡ length (passed (walk next a.nf (here a.s))) =
+    elim c.in-Home.is [
+      | inl h ↦ then-home next a.nf a.s c.requires.2.stops l.n l.x l.invariant.1 l.invariant.2 (sym c.next_corner.ensures ∙ h)
+      | inr h ↦ then-off next a.nf a.s c.requires.2.stops l.n l.x l.invariant.1 l.invariant.2 (sym c.next_corner.ensures ∙ h)
+    ] in
+    let e = ended c.before.before.before q in
     record { ring = e.0; out = e.1 }

@@ -1,6 +1,7 @@
 use mathlib.Core.Path.{◌≡◌, refl, sym, ap, ap₂, ◌∙◌}
 use mathlib.Core.Bool.{Bool}
 use Prim.Native.Nat.{ℕ, suc, ◌+◌, ◌*◌, ◌/◌, ◌%◌}
+use mathlib.Core.Logic.{inl, inr}
 use native.Mathlib.Omega.{arith}
 use native.Mathlib.Numerals.{add-one}
 use mathlib.Core.List.{List}
@@ -147,16 +148,15 @@ gathered k q =
       ),
     )
 
+-- the walk is over, and all of them are stored
 pub returns-in-Home : goal.returns-in-Home
 returns-in-Home c = let a = c.args in
     let l = c.loop-t in
     let next = prev_corner (links (part a.at (3 * a.nf) a.words.now)) a.end in
-    let g = gathered c.before.before.before (then-home next a.nf a.end c.requires.2.stops l.n l.x l.invariant.1 l.invariant.2 (sym c.prev_corner.ensures ∙ c.in-Home.is)) in
-    record { count = g.0; sharp = g.1.0; ring = g.1.1 }
-
-pub returns-in-Off : goal.returns-in-Off
-returns-in-Off c = let a = c.args in
-    let l = c.loop-t in
-    let next = prev_corner (links (part a.at (3 * a.nf) a.words.now)) a.end in
-    let g = gathered c.before.before.before (then-off next a.nf a.end c.requires.2.stops l.n l.x l.invariant.1 l.invariant.2 (sym c.prev_corner.ensures ∙ c.in-Off.is)) in
-    record { count = g.0; sharp = g.1.0; ring = g.1.1 }
+    let q : suc l.n ≡ length (passed (walk next a.nf (here a.end))) =
+    elim c.in-Home.is [
+      | inl h ↦ then-home next a.nf a.end c.requires.2.stops l.n l.x l.invariant.1 l.invariant.2 (sym c.prev_corner.ensures ∙ h)
+      | inr h ↦ then-off next a.nf a.end c.requires.2.stops l.n l.x l.invariant.1 l.invariant.2 (sym c.prev_corner.ensures ∙ h)
+    ] in
+    let e = gathered c.before.before.before q in
+    record { count = e.0; sharp = e.1.0; ring = e.1.1 }

@@ -6,10 +6,8 @@ use mir.Val.{to_z, of_z}
 use mir.ValLaws.{to_z-of_z, to_z_pos}
 use Rattle.obj.specs.Reading.{minus}
 use Rattle.obj.proofs.Answers.{zero_minus, minus-fits}
-use borrow.Author.Rules.{rules}
 use Rattle.obj.proofs.numbers.less.Lts
 use Rattle.obj.proofs.numbers.less.Reads
-use Rattle.obj.proofs.numbers.less.Tie
 use Rattle.obj.proofs.numbers.less.Goals as goal
 
 abbrev Start : Type 0

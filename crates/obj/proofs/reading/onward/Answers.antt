@@ -1,4 +1,3 @@
-use borrow.Author.Rules.{rules}
 use Rattle.obj.specs.Inside.{stays, above, under, corner}
 use Rattle.obj.proofs.reading.onward.Goals as goal
 

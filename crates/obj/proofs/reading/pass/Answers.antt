@@ -1,20 +1,17 @@
-use Prim.Native.Nat.{◌-◌, ◌≤◌}
-use mathlib.Core.Path.{◌≡◌, refl, sym, ap, ◌∙◌}
+use mathlib.Core.Path.{refl, sym, ap, ◌∙◌}
 use native.Mathlib.Omega.{arith}
-use borrow.Author.Rules.{rules}
-use lib.ListN.{length}
 use Rattle.spots.specs.Spots.{is_stuck}
 use Rattle.obj.specs.Inside.{seen_of}
 use Rattle.obj.proofs.Few.{one-coord, one-corner}
-use Rattle.obj.proofs.Going.{not-whole, going-stuck, few, fits-here, seen_end, Filling, filling-first, filling-more, filled-coords, filled-corners}
+use Rattle.obj.proofs.Going.{not-whole, going-stuck, few, fits-here, seen_end, filling-first, filling-more, filled-coords, filled-corners}
 use Rattle.obj.proofs.Runs.{onward-up, onward-within, filling-onward}
 use Rattle.obj.proofs.reading.pass.Goals as goal
 
 pub loop-at-init : goal.loop-at-init
 loop-at-init c = (omega arith, filling-first _ _ _, refl, refl)
 
-pub overflow_cast-result : goal.overflow_cast-result
-overflow_cast-result c = omega (arith, (few _ _ _ _ _ c.loop-at.invariant.1.going).0)
+pub overflow_cast-at : goal.overflow_cast-at
+overflow_cast-at c = omega (arith, (few _ _ _ _ _ c.loop-at.invariant.1.going).0)
 
 pub shape_of-coords-then-is_stuck : goal.shape_of-coords-then-is_stuck
 shape_of-coords-then-is_stuck c = c.loop-at.invariant.2
@@ -26,7 +23,7 @@ shape_of-corners-then-is_stuck c = c.loop-at.invariant.3
 pub returns-then-is_stuck : goal.returns-then-is_stuck
 returns-then-is_stuck c = let l = c.loop-at in
     let s = going-stuck _ _ _ _ _ l.invariant.1.going _ c.wide-c.ensures.0 (omega arith) (ap is_stuck (sym c.turn-to.ensures) ∙ sym c.is_stuck.ensures ∙ c.if-is_stuck.true) in
-    record { seen = sym (ap seen_of s); coords = λ w. absurd (not-whole _ _ s w); corners = λ w. absurd (not-whole _ _ s w) }
+    record { seen = rw c.wrong_at.ensures (sym (ap seen_of s)); coords = λ w. absurd (not-whole _ _ s w); corners = λ w. absurd (not-whole _ _ s w) }
 
 pub store_coord-requires : goal.store_coord-requires
 store_coord-requires c = rw c.ended-h.ensures (fits-here _ _ _ _ _ c.loop-at.invariant.1.going c.wide-c.result c.wide-c.ensures.0 (omega arith))
@@ -54,8 +51,8 @@ loop-at-preserved c = let l = c.loop-at in
       c.store_corner.auto.corners ∙ l.invariant.3,
     )
 
-pub overflow_cast-at : goal.overflow_cast-at
-overflow_cast-at c = omega (arith, (few _ _ _ _ _ c.loop-at.invariant.1.going).0)
+pub overflow_cast-at-2 : goal.overflow_cast-at-2
+overflow_cast-at-2 c = omega (arith, (few _ _ _ _ _ c.loop-at.invariant.1.going).0)
 
 pub shape_of-coords : goal.shape_of-coords
 shape_of-coords c = c.loop-at.invariant.2

@@ -1,8 +1,7 @@
-use Prim.Native.Nat.{suc, ◌-◌, ◌*◌, ◌≤◌}
+use Prim.Native.Nat.{suc}
 use mathlib.Core.Path.{◌≡◌, refl}
 use mathlib.Core.List.{map}
 use native.Mathlib.Omega.{arith}
-use lib.ListN.{length}
 use Rattle.lists.specs.Lists.{rows}
 use Rattle.listing.specs.Text.{face_line}
 use Rattle.obj.proofs.Lines.{rows_long}

@@ -1,15 +1,10 @@
-use Prim.Native.Nat.{suc, ◌-◌, ◌*◌, ◌≤◌}
-use mathlib.Core.Path.{◌≡◌, refl}
+use Prim.Native.Nat.{suc, ◌*◌, ◌≤◌}
+use mathlib.Core.Path.{◌≡◌}
 use mathlib.Core.List.{map}
-use native.Mathlib.Omega.{arith}
 use lib.ListN.{length}
 use Rattle.lists.specs.Lists.{rows}
 use Rattle.listing.specs.Text.{face_line}
-use Rattle.obj.proofs.Lines.{rows_long}
 use Rattle.obj.proofs.writing.face_lengths.Given as goal
 
 abbrev pub invariant-loop-f : goal.invariant-loop-f
 invariant-loop-f l = (l.f ≤ l.n) × ((l.long ≡ length (rows (face_line (map suc l.w)) l.f)) × (l.long ≤ 65 * l.f))
-
-abbrev pub decreases-loop-f : goal.decreases-loop-f
-decreases-loop-f l = l.n - l.f

@@ -3,7 +3,6 @@ use native.Mathlib.Omega.{arith}
 use Rattle.listing.specs.Text.{face_line}
 use Rattle.listing.proofs.Laws.{put-put}
 use Rattle.obj.proofs.Lines.{corner-is}
-use borrow.Author.Rules.{rules}
 use Rattle.obj.proofs.writing.face_line.Goals as goal
 
 pub overflow_add-w : goal.overflow_add-w

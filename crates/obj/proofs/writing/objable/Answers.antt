@@ -1,6 +1,4 @@
 use mathlib.Core.Path.{sym, ◌∙◌}
-use borrow.Author.Rules.{rules}
-use borrow.Author.Tests.{not-true, not-false}
 use Rattle.obj.proofs.Lines.{part-vertex, part-face, many-vertices, many-faces, out_of_range, by-corners}
 use Rattle.obj.proofs.writing.objable.Goals as goal
 

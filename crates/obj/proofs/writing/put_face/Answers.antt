@@ -6,7 +6,6 @@ use native.Mathlib.Nat.{zero-add}
 use lib.ListN.{take}
 use Rattle.listing.specs.Text.{face_line}
 use Rattle.obj.proofs.Lines.{line_of}
-use borrow.Author.Rules.{rules}
 use Rattle.obj.proofs.writing.put_face.Lts
 use Rattle.obj.proofs.writing.put_face.Reads
 use Rattle.obj.proofs.writing.put_face.Tie

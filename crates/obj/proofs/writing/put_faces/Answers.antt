@@ -1,10 +1,9 @@
-use Prim.Native.Nat.{suc, ◌-◌, ◌≤◌}
+use Prim.Native.Nat.{suc}
 use mathlib.Core.Path.{◌≡◌, refl, ◌∙◌}
 use mathlib.Core.List.{map}
 use native.Mathlib.Omega.{arith}
-use lib.ListN.{length}
 use Rattle.lists.specs.Lists.{rows}
-use Rattle.listing.specs.Text.{Put, face_line}
+use Rattle.listing.specs.Text.{face_line}
 use Rattle.listing.proofs.Laws.{row_more}
 use Rattle.obj.proofs.Lines.{rows-less}
 use Rattle.obj.proofs.writing.put_faces.Goals as goal

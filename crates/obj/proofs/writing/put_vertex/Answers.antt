@@ -4,7 +4,6 @@ use native.Mathlib.Nat.{zero-add}
 use lib.ListN.{take}
 use Rattle.listing.specs.Text.{vertex_line}
 use Rattle.obj.proofs.Lines.{line_of}
-use borrow.Author.Rules.{rules}
 use Rattle.obj.proofs.writing.put_vertex.Lts
 use Rattle.obj.proofs.writing.put_vertex.Reads
 use Rattle.obj.proofs.writing.put_vertex.Tie

@@ -1,9 +1,7 @@
-use Prim.Native.Nat.{◌-◌, ◌≤◌}
 use mathlib.Core.Path.{◌≡◌, refl, ◌∙◌}
 use native.Mathlib.Omega.{arith}
-use lib.ListN.{length}
 use Rattle.lists.specs.Lists.{rows}
-use Rattle.listing.specs.Text.{Put, vertex_line}
+use Rattle.listing.specs.Text.{vertex_line}
 use Rattle.listing.proofs.Laws.{row_more}
 use Rattle.obj.proofs.Lines.{rows-less}
 use Rattle.obj.proofs.writing.put_vertices.Goals as goal

@@ -1,15 +1,9 @@
-use Prim.Native.Nat.{◌-◌, ◌≤◌}
-use mathlib.Core.Path.{◌≡◌, refl, ◌∙◌}
-use native.Mathlib.Omega.{arith}
+use Prim.Native.Nat.{◌≤◌}
+use mathlib.Core.Path.{◌≡◌}
 use lib.ListN.{length}
 use Rattle.lists.specs.Lists.{rows}
 use Rattle.listing.specs.Text.{Put, vertex_line}
-use Rattle.listing.proofs.Laws.{row_more}
-use Rattle.obj.proofs.Lines.{rows-less}
 use Rattle.obj.proofs.writing.put_vertices.Given as goal
 
 abbrev pub invariant-loop-v : goal.invariant-loop-v
 invariant-loop-v l = (l.v ≤ l.n) × ((length l.text ≡ length l.initial.text) × Put l.initial.text 0 (rows (vertex_line l.p) l.v) l.text l.at)
-
-abbrev pub decreases-loop-v : goal.decreases-loop-v
-decreases-loop-v l = l.n - l.v

@@ -1,7 +1,5 @@
-use Prim.Native.Nat.{◌-◌, ◌*◌, ◌≤◌}
 use mathlib.Core.Path.{◌≡◌, refl}
 use native.Mathlib.Omega.{arith}
-use lib.ListN.{length}
 use Rattle.lists.specs.Lists.{rows}
 use Rattle.listing.specs.Text.{vertex_line}
 use Rattle.obj.proofs.Lines.{rows_long}

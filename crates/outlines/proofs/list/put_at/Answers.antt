@@ -1,4 +1,3 @@
-use borrow.Author.Rules.{rules}
 use native.Mathlib.Omega.{arith}
 use Prim.Native.Nat.{ℕ, ◌+◌, ◌-◌, ◌*◌, ◌≤◌, ◌<◌}
 use mathlib.Core.Path.{◌≡◌, refl, sym, ap, ◌∙◌}
@@ -84,7 +83,7 @@ overflow_cast-first c = omega (arith, short c.before.before.before.before.before
 pub put_loop-n-requires : goal.put_loop-n-requires
 put_loop-n-requires c = let e = begun c.before.before.before in
     let f = first-at c.before.before.before.before.before.before.before.before.before.before e in
-    record { cage = c.requires.cage; first = (f.below, f.again); out = (c.requires.out.0, c.requires.out.2); room = roomy c.before.before.before.before.before.before.before.before.before.before e }
+    record { cage = c.requires.cage; first = (f.below, f.again); out = (c.requires.out.0, c.requires.out.2, c.requires.out.1); room = roomy c.before.before.before.before.before.before.before.before.before.before e }
 
 pub overflow_mul-list : goal.overflow_mul-list
 overflow_mul-list c = omega (arith, small c.before.before.before)

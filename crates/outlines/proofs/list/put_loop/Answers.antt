@@ -1,8 +1,8 @@
 use native.Mathlib.Omega.{arith}
-use Prim.Native.Nat.{ℕ, suc, ◌+◌, ◌-◌, ◌*◌, ◌≤◌, ◌<◌}
+use Prim.Native.Nat.{ℕ, ◌+◌, ◌-◌, ◌*◌, ◌≤◌, ◌<◌}
 use mathlib.Core.Path.{◌≡◌, refl, sym, ap, ◌∙◌}
-use mathlib.Core.List.{List, map}
-use lib.ListN.{length, get_or, take}
+use mathlib.Core.List.{List}
+use lib.ListN.{length, take}
 use lib.Seq.{sets, take-length, length-sets}
 use Rattle.lists.specs.Lists.{gather}
 use Rattle.rules.specs.Mesh.{links}
@@ -52,7 +52,7 @@ overflow_add-at c = omega (arith, roomy c.before.before, c.loop-w.invariant.2)
 
 pub put_pieces-requires : goal.put_pieces-requires
 put_pieces-requires c = let f = c.requires.out in
-    record { sizes = (f.0, omega (arith, roomy c.before.before, c.loop-w.invariant.2), f.1.few); within = within-cage c.args.indices.now c.args.out.now c.args.levels _ c.requires.cage.0.thirds (inside c.before.before) f.1 }
+    record { few = f.2; sizes = (f.0, omega (arith, roomy c.before.before, c.loop-w.invariant.2), f.1.few); within = within-cage c.args.indices.now c.args.out.now c.args.levels _ c.requires.cage.0.thirds (inside c.before.before) f.1 }
 
 pub next_word-w-requires : goal.next_word-w-requires
 next_word-w-requires c = (c.requires.cage.0, c.requires.cage.1, c.requires.cage.3, inside c.before.before.before.before.before, c.requires.first.0)

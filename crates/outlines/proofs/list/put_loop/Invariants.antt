@@ -1,14 +1,12 @@
-use native.Mathlib.Omega.{arith}
-use Prim.Native.Nat.{ℕ, suc, ◌+◌, ◌-◌, ◌*◌, ◌≤◌, ◌<◌}
-use mathlib.Core.Path.{◌≡◌, refl, sym, ap, ◌∙◌}
-use mathlib.Core.List.{List, map}
+use Prim.Native.Nat.{suc, ◌-◌, ◌≤◌}
+use mathlib.Core.Path.{◌≡◌}
+use mathlib.Core.List.{map}
 use lib.ListN.{length, get_or, take}
-use lib.Seq.{sets, take-length, length-sets}
+use lib.Seq.{sets}
 use Rattle.lists.specs.Lists.{gather}
 use Rattle.rules.specs.Mesh.{links}
 use Rattle.outlines.specs.Loops.{around}
 use Rattle.outlines.specs.Pieces.{stored}
-use Rattle.outlines.proofs.Steps.{Told, word_in, word_out, word_first, word_next, side-below, loop-few, room_for, loop-store, length-stored, within-cage}
 use Rattle.outlines.proofs.list.put_loop.Given as goal
 
 abbrev pub invariant-loop-w : goal.invariant-loop-w

@@ -1,8 +1,7 @@
 use native.Mathlib.Omega.{arith}
-use Prim.Native.Nat.{ℕ, ◌-◌, ◌≤◌}
+use Prim.Native.Nat.{ℕ}
 use mathlib.Core.Path.{◌≡◌, refl, sym, ap, ◌∙◌}
 use mathlib.Core.List.{List}
-use lib.ListN.{length}
 use lib.Seq.{sets, length-sets}
 use Rattle.lists.specs.Lists.{count, gather}
 use Rattle.outlines.specs.Pieces.{entry_at}
@@ -16,12 +15,6 @@ pub put_at-at-requires : goal.put_at-at-requires
 put_at-at-requires c = let l = c.loop-u in
     let h = room_next (entry_at c.args.levels c.args.indices.now c.args.out.now) l.u c.args.v c.loop-u-test.true in
     record { cage = c.requires.cage; vertex = (c.loop-u-test.true, c.requires.few.0, c.requires.few.1, c.requires.few.2, c.requires.few.3); out = c.requires.out; room = omega (arith, h, l.invariant.1, l.invariant.2, c.requires.room) }
-
-pub overflow_add-u : goal.overflow_add-u
-overflow_add-u c = omega (arith, c.loop-u-test.true)
-
-pub loop-u-smaller : goal.loop-u-smaller
-loop-u-smaller c = omega (arith, c.loop-u-test.true)
 
 pub loop-u-preserved : goal.loop-u-preserved
 loop-u-preserved c = let l = c.loop-u in

@@ -1,5 +1,4 @@
-use borrow.Author.Rules.{rules}
-use Rattle.rules.specs.Mesh.{backward, restart, onward}
+use Rattle.rules.specs.Mesh.{backward, restart}
 use mathlib.Core.Path.{ap, ◌∙◌}
 use Rattle.outlines.proofs.pieces.half2.Goals as goal
 

@@ -1,6 +1,5 @@
-use borrow.Author.Rules.{rules}
 use native.Mathlib.Omega.{arith}
-use Prim.Native.Nat.{ℕ, ◌-◌, ◌^◌, ◌≤◌, ◌<◌}
+use Prim.Native.Nat.{ℕ, ◌^◌, ◌<◌}
 use mathlib.Core.Path.{◌≡◌, refl, sym, ap, ◌∙◌}
 use mathlib.Core.List.{map}
 use lib.ListN.{length, length-set, take}
@@ -15,7 +14,7 @@ pub loop-j-init : goal.loop-j-init
 loop-j-init c = (omega arith, refl, refl)
 
 pub vertex_at-requires : goal.vertex_at-requires
-vertex_at-requires c = record { sizes = (c.requires.sizes.0, c.loop-j-test.true, c.requires.sizes.2); within = c.requires.within }
+vertex_at-requires c = record { sizes = (c.requires.few, omega (arith, c.requires.sizes.0, c.loop-j-test.true), c.requires.sizes.2); within = c.requires.within }
 
 pub overflow_add-list : goal.overflow_add-list
 overflow_add-list c = omega (arith, c.requires.sizes.1, c.loop-j-test.true)

@@ -1,15 +1,8 @@
-use borrow.Author.Rules.{rules}
-use native.Mathlib.Omega.{arith}
-use Prim.Native.Nat.{◌-◌, ◌^◌, ◌<◌}
-use mathlib.Core.Path.{◌≡◌, refl, sym, ap, ◌∙◌}
+use Prim.Native.Nat.{◌^◌, ◌<◌}
+use mathlib.Core.Path.{◌≡◌}
 use lib.ListN.{length, get_or}
-use Rattle.rules.specs.Mesh.{corner}
 use Rattle.outlines.specs.Pieces.{pieces, Within}
-use Rattle.outlines.proofs.Steps.{turn-of, within-side}
 use Rattle.outlines.proofs.pieces.vertex_at.Given as goal
 
 abbrev pub invariant-loop-l : goal.invariant-loop-l
-invariant-loop-l l = (l.h ≡ 2 ^ l.l) × (l.i < 2 ^ l.l) × (get_or (pieces l.l l.t) l.i 0 ≡ get_or (pieces l.levels l.s) l.j 0) × Within (length l.out) l.l l.t
-
-abbrev pub decreases-loop-l : goal.decreases-loop-l
-decreases-loop-l l = l.l
+invariant-loop-l l = (l.i < 2 ^ l.l) × (get_or (pieces l.l l.t) l.i 0 ≡ get_or (pieces l.levels l.s) l.j 0) × Within (length l.out) l.l l.t

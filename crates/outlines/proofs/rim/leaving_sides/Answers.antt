@@ -1,7 +1,6 @@
 use native.Mathlib.Omega.{arith}
 use Prim.Native.Nat.{ℕ}
 use lib.ListN.{length-replicate}
-use borrow.Author.Rules.{rules}
 use Rattle.outlines.proofs.rim.leaving_sides.Goals as goal
 
 pub put_links-requires : goal.put_links-requires

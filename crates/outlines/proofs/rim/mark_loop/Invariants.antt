@@ -1,12 +1,10 @@
-use native.Mathlib.Omega.{arith}
-use Prim.Native.Nat.{suc, ◌-◌, ◌≤◌, ◌<◌}
-use mathlib.Core.Path.{◌≡◌, sym, ◌∙◌}
+use Prim.Native.Nat.{suc, ◌-◌, ◌≤◌}
+use mathlib.Core.Path.{◌≡◌}
 use mathlib.Core.List.{map}
 use lib.ListN.{length, get_or}
-use Rattle.rules.specs.Mesh.{corner, links}
+use Rattle.rules.specs.Mesh.{links}
 use Rattle.outlines.specs.Loops.{around}
 use Rattle.outlines.specs.Pieces.{Painted, vertex_of}
-use Rattle.outlines.proofs.Steps.{Told, word_in, word_out, word_first, word_next, side-below, vertex-below, loop-few, painted-none, painted-more}
 use Rattle.outlines.proofs.rim.mark_loop.Given as goal
 
 abbrev pub invariant-loop-w : goal.invariant-loop-w

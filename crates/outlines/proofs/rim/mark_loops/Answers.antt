@@ -1,7 +1,6 @@
 use native.Mathlib.Omega.{arith}
-use Prim.Native.Nat.{ℕ, ◌-◌, ◌≤◌}
+use Prim.Native.Nat.{ℕ, ◌≤◌}
 use mathlib.Core.Path.{◌≡◌, refl, sym, ap, ◌∙◌, subst}
-use lib.ListN.{length}
 use Rattle.lists.specs.Lists.{count, tally}
 use Rattle.lists.proofs.Places.{tally-next}
 use Rattle.limits.proofs.Sizes.{bit_le}
@@ -28,12 +27,6 @@ mark_at-loops-requires c = record { cage = c.requires.cage; vertex = (c.loop-u-t
 
 pub overflow_add-loops : goal.overflow_add-loops
 overflow_add-loops c = omega (arith, one c.before.before.before, c.loop-u.invariant.1, c.loop-u-test.true, c.requires.few.0)
-
-pub overflow_add-u : goal.overflow_add-u
-overflow_add-u c = omega (arith, c.loop-u-test.true)
-
-pub loop-u-smaller : goal.loop-u-smaller
-loop-u-smaller c = omega (arith, c.loop-u-test.true)
 
 pub loop-u-preserved : goal.loop-u-preserved
 loop-u-preserved c = let l = c.loop-u in

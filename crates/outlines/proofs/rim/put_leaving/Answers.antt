@@ -1,9 +1,6 @@
-use borrow.Author.Rules.{rules}
 use native.Mathlib.Omega.{arith}
-use Prim.Native.Nat.{◌-◌, ◌≤◌}
 use mathlib.Core.Path.{◌≡◌, refl, ◌∙◌}
 use lib.ListN.{length}
-use Rattle.outlines.specs.Pieces.{Leaving}
 use Rattle.outlines.proofs.Steps.{left-all}
 use Rattle.outlines.proofs.rim.put_leaving.Goals as goal
 

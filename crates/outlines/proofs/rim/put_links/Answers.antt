@@ -3,7 +3,6 @@ use mathlib.Core.Path.{◌≡◌}
 use lib.ListN.{length}
 use Rattle.cage.proofs.Chains.{heads-none, chained-none}
 use Rattle.cage.proofs.Across.{words-stored}
-use borrow.Author.Rules.{rules}
 use Rattle.outlines.proofs.rim.put_links.Goals as goal
 
 pub chain-requires : goal.chain-requires

@@ -1,10 +1,10 @@
 use native.Mathlib.Omega.{arith}
-use Prim.Native.Nat.{ℕ, ◌-◌}
+use Prim.Native.Nat.{ℕ}
 use mathlib.Core.Path.{◌≡◌, subst}
 use Rattle.rules.specs.Position.{whole}
 use Rattle.rules.specs.Sharp.{sharp_last}
 use Rattle.plain.specs.Held.{Held}
-use Rattle.plain.proofs.Going.{Going, Turn, Turned, turn, going-first, going-held}
+use Rattle.plain.proofs.Going.{Turn, Turned, turn, going-first, going-held}
 use Rattle.plain.proofs.engine.refine.Lts
 use Rattle.plain.proofs.engine.refine.Reads
 use Rattle.plain.proofs.engine.refine.Tie

@@ -1,15 +1,12 @@
-use Prim.Native.Nat.{◌-◌, ◌≤◌, ◌<◌}
+use Prim.Native.Nat.{◌<◌}
 use mathlib.Core.Path.{◌≡◌, refl, sym, ◌∙◌}
-use mathlib.Core.Logic.{⊎_elim}
 use mathlib.Core.Bool.{true}
 use lib.ListN.{length, length-set}
-use lib.Seq.{sets}
-use Rattle.lists.specs.Lists.{count, keep, gather, part}
+use Rattle.lists.specs.Lists.{part}
 use Rattle.lists.proofs.Stores.{kept_same, kept-count}
 use Rattle.rules.specs.Mesh.{links, first_met, firsts}
 use Rattle.levels.proofs.Starts.{start_of}
 use Rattle.plain.proofs.Numbers.{met-is, starts-kept, met-room, met-more, starts-all}
-use borrow.Author.Rules.{rules}
 use native.Mathlib.Omega.{arith}
 use Rattle.plain.proofs.level.new_starts.Lts
 use Rattle.plain.proofs.level.new_starts.Reads

@@ -1,14 +1,11 @@
-use Prim.Native.Nat.{ℕ, ◌+◌, ◌-◌, ◌≤◌, ◌<◌}
+use Prim.Native.Nat.{ℕ, ◌+◌, ◌≤◌, ◌<◌}
 use mathlib.Core.Path.{◌≡◌, refl, ap, ◌∙◌}
 use mathlib.Core.Bool.{Bool}
-use mathlib.Core.List.{map}
-use lib.ListN.{length, set, length-set}
-use lib.Seq.{sets}
-use Rattle.lists.specs.Lists.{bit, count, tally, part}
+use lib.ListN.{set, length-set}
+use Rattle.lists.specs.Lists.{bit, part}
 use Rattle.lists.proofs.Places.{tally-below}
-use Rattle.rules.specs.Mesh.{links, first_met, middle}
+use Rattle.rules.specs.Mesh.{links, first_met}
 use Rattle.plain.proofs.Numbers.{number_is, number_more, tally-more, all-met}
-use borrow.Author.Rules.{rules}
 use native.Mathlib.Omega.{arith}
 use Rattle.plain.proofs.level.number.Lts
 use Rattle.plain.proofs.level.number.Reads

@@ -6,7 +6,6 @@ use lib.Seq.{length-sets}
 use Rattle.lists.specs.Lists.{part}
 use Rattle.rules.specs.Mesh.{links, firsts}
 use Rattle.plain.proofs.Growth.{w₁, w₂, w₃, w₄, step₂, step₃, step₄, apart-at, listed, mutual-in, below₂, list₃, grown-by}
-use borrow.Author.Rules.{rules}
 use Rattle.plain.proofs.level.refine_words.Lts
 use Rattle.plain.proofs.level.refine_words.Reads
 use Rattle.plain.proofs.level.refine_words.Tie

@@ -13,7 +13,6 @@ use Rattle.weights.proofs.Joins.{readable}
 use Rattle.levels.proofs.Moves.{lent_is}
 use Rattle.marks.proofs.Marks.{mark-at}
 use Rattle.plain.proofs.Ghost.{seen, corner-small, corner-is, across-below, edge-off, edge-sharp, edge-smooth}
-use borrow.Author.Rules.{rules}
 use Rattle.plain.proofs.points.edge_point.Goals as goal
 
 pub next_of-requires : goal.next_of-requires

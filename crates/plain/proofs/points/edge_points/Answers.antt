@@ -1,17 +1,14 @@
-use borrow.Author.Rules.{rules}
-use Prim.Native.Nat.{◌+◌, ◌-◌, ◌*◌, ◌≤◌, ◌<◌}
+use Prim.Native.Nat.{◌*◌, ◌<◌}
 use mathlib.Core.Path.{◌≡◌, refl, sym, ap, ◌∙◌}
-use mathlib.Core.Logic.{⊎_elim}
 use mathlib.Core.Bool.{true}
 use native.Mathlib.Omega.{arith}
 use lib.ListN.{length}
-use lib.Seq.{sets, length-sets}
-use Rattle.lists.specs.Lists.{count, keep, gather, part}
+use lib.Seq.{length-sets}
+use Rattle.lists.specs.Lists.{part}
 use Rattle.rules.specs.Mesh.{links, first_met}
 use Rattle.rules.specs.Position.{whole}
 use Rattle.weights.specs.Lent.{lowered}
 use Rattle.levels.specs.Moves.{edges_in}
-use Rattle.creases.specs.Moves.{sharp_edge_at}
 use Rattle.plain.proofs.Ghost.{seen, sides-long, test-is}
 use Rattle.creases.proofs.Moves.{edge-room, edge_kept, edge_same, edge_count, edge_more, edges-all}
 use Rattle.plain.proofs.points.edge_points.Lts
@@ -49,9 +46,6 @@ pub overflow_mul-nf : goal.overflow_mul-nf
 overflow_mul-nf c = let a = c.args in
     let r = c.requires in
     omega (arith, r.mesh.small, r.mesh.room)
-
-pub overflow_mul-nf-in-loop-s : goal.overflow_mul-nf-in-loop-s
-overflow_mul-nf-in-loop-s c = let r = c.requires in omega (arith, r.mesh.small)
 
 pub across-w-requires : goal.across-w-requires
 across-w-requires c = let a = c.args in
@@ -104,9 +98,6 @@ overflow_add-k c = let a = c.args in
     let r = c.requires in
     let l = c.loop-s in
     omega (arith, r.room.new, l.invariant.1.0, fits c.before.before.before.before.before)
-
-pub overflow_add-s : goal.overflow_add-s
-overflow_add-s c = omega (arith, c.requires.mesh.small)
 
 pub loop-s-preserved : goal.loop-s-preserved
 loop-s-preserved c = let a = c.args in

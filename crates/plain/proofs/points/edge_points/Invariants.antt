@@ -1,23 +1,12 @@
-use borrow.Author.Rules.{rules}
-use Prim.Native.Nat.{◌+◌, ◌-◌, ◌*◌, ◌≤◌, ◌<◌}
-use mathlib.Core.Path.{◌≡◌, refl, sym, ap, ◌∙◌}
-use mathlib.Core.Logic.{⊎_elim}
-use mathlib.Core.Bool.{true}
-use native.Mathlib.Omega.{arith}
+use Prim.Native.Nat.{◌+◌, ◌*◌, ◌≤◌}
+use mathlib.Core.Path.{◌≡◌}
 use lib.ListN.{length}
-use lib.Seq.{sets, length-sets}
+use lib.Seq.{sets}
 use Rattle.lists.specs.Lists.{count, keep, gather, part}
 use Rattle.rules.specs.Mesh.{links, first_met}
 use Rattle.rules.specs.Position.{whole}
-use Rattle.weights.specs.Lent.{lowered}
-use Rattle.levels.specs.Moves.{edges_in}
 use Rattle.creases.specs.Moves.{sharp_edge_at}
-use Rattle.plain.proofs.Ghost.{seen, sides-long, test-is}
-use Rattle.creases.proofs.Moves.{edge-room, edge_kept, edge_same, edge_count, edge_more, edges-all}
 use Rattle.plain.proofs.points.edge_points.Given as goal
 
 abbrev pub invariant-loop-s : goal.invariant-loop-s
 invariant-loop-s l = (l.s ≤ 3 * l.nf) × ((length l.work ≡ length l.initial.work) × ((l.k ≡ length (keep (first_met (links (part l.at (3 * l.nf) l.words))) (count 0 l.s))) × (l.work ≡ sets l.initial.work (l.to + 3 * l.nv) (gather (sharp_edge_at whole l.words l.at l.marks l.nf (part l.from (3 * l.nv) l.initial.work)) (keep (first_met (links (part l.at (3 * l.nf) l.words))) (count 0 l.s))))))
-
-abbrev pub decreases-loop-s : goal.decreases-loop-s
-decreases-loop-s l = 3 * l.nf - l.s

@@ -3,7 +3,6 @@ use native.Mathlib.Omega.{arith}
 use mathlib.Core.Path.{sym}
 use lib.ListN.{length, replicate}
 use lib.Seq.{length-take-le}
-use borrow.Author.Rules.{rules}
 use Rattle.turns.specs.Turns.{most_valence}
 use Rattle.lists.specs.Lists.{part}
 use Rattle.lists.proofs.Stores.{length_part}

@@ -1,13 +1,9 @@
-use borrow.Author.Rules.{rules}
-use Prim.Native.Nat.{◌-◌, ◌*◌, ◌≤◌}
 use mathlib.Core.Path.{◌≡◌, refl, ap, ◌∙◌}
 use native.Mathlib.Omega.{arith}
 use lib.ListN.{length}
-use lib.Seq.{sets, length-sets}
-use Rattle.lists.specs.Lists.{count, gather, part}
+use lib.Seq.{length-sets}
 use Rattle.rules.specs.Position.{whole}
 use Rattle.weights.specs.Lent.{lowered}
-use Rattle.creases.specs.Moves.{sharp_old}
 use Rattle.creases.proofs.Moves.{old-kept, old-more}
 use Rattle.plain.proofs.points.old_points.Goals as goal
 

@@ -1,18 +1,11 @@
-use borrow.Author.Rules.{rules}
-use Prim.Native.Nat.{◌-◌, ◌*◌, ◌≤◌}
-use mathlib.Core.Path.{◌≡◌, refl, ap, ◌∙◌}
-use native.Mathlib.Omega.{arith}
+use Prim.Native.Nat.{◌*◌, ◌≤◌}
+use mathlib.Core.Path.{◌≡◌}
 use lib.ListN.{length}
-use lib.Seq.{sets, length-sets}
+use lib.Seq.{sets}
 use Rattle.lists.specs.Lists.{count, gather, part}
 use Rattle.rules.specs.Position.{whole}
-use Rattle.weights.specs.Lent.{lowered}
 use Rattle.creases.specs.Moves.{sharp_old}
-use Rattle.creases.proofs.Moves.{old-kept, old-more}
 use Rattle.plain.proofs.points.old_points.Given as goal
 
 abbrev pub invariant-loop-u : goal.invariant-loop-u
 invariant-loop-u l = (l.u ≤ l.nv) × ((length l.work ≡ length l.initial.work) × (l.work ≡ sets l.initial.work l.to (gather (sharp_old whole l.words l.at l.marks l.nf (part l.from (3 * l.nv) l.initial.work) l.nv) (count 0 l.u))))
-
-abbrev pub decreases-loop-u : goal.decreases-loop-u
-decreases-loop-u l = l.nv - l.u

@@ -1,6 +1,5 @@
 use native.Mathlib.Omega.{arith}
 use lib.ListN.{length}
-use borrow.Author.Rules.{rules}
 use Rattle.rules.specs.Position.{whole}
 use Rattle.levels.specs.Moves.{Placed, edges_in}
 use Rattle.creases.proofs.Moves.{points_kept, points-are}

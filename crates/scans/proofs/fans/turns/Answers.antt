@@ -1,10 +1,10 @@
-use borrow.Author.Rules.{rules}
+use Rattle.std.specs.Prelude.{Ok}
 use borrow.Author.Count.{below_more}
 use native.Mathlib.Omega.{arith}
-use Prim.Native.Nat.{ℕ, ◌-◌, ◌≤◌, ◌<◌}
-use mathlib.Core.Path.{◌≡◌, refl, sym, ap, ◌∙◌}
-use mathlib.Core.Bool.{Bool, false}
-use mathlib.Core.Option.{some}
+use Prim.Native.Nat.{ℕ, ◌<◌}
+use mathlib.Core.Path.{◌≡◌, sym, ap, ◌∙◌}
+use mathlib.Core.Bool.{Bool}
+use mathlib.Core.List.{List}
 use lib.Dec.{eqb, ltb}
 use Rattle.lists.specs.Lists.{lowest, tally}
 use Rattle.turns.specs.Turns.{most_valence}
@@ -12,10 +12,9 @@ use Rattle.rules.specs.Mesh.{valence}
 use Rattle.rules.specs.Refusals.{check, parted, fans_of}
 use Rattle.faces.specs.Rings.{turn_of, valence_of}
 use Rattle.limits.specs.Verdicts.{verdict_of}
-use Rattle.limits.specs.declared.Check.TheVariants.{Pass}
-use Rattle.cage.specs.Fans.{place_or}
+use Rattle.cage.specs.Fans.{place_of}
 use Rattle.limits.proofs.Search.{or-stops, or-goes, lowest-here, lowest-nowhere}
-use Rattle.cage.proofs.Search.{first_more, placed, unplaced}
+use Rattle.cage.proofs.Search.{lowest-found, first_more, placed, unplaced}
 use Rattle.cage.proofs.Rounds.{fan-at, short-is, wide_is}
 use Rattle.scans.proofs.fans.turns.Lts
 use Rattle.scans.proofs.fans.turns.Reads
@@ -33,6 +32,9 @@ After-wide = Lts.After-wide Tie.the-claims Reads.Pre Reads.Post goal.the-invaria
 
 abbrev After-loop-u : Type 0
 After-loop-u = Lts.After-loop Tie.the-claims Reads.Pre Reads.Post goal.the-invariant-loop-u goal.the-decreases-loop-u
+
+abbrev crowd : ℕ → List ℕ → ℕ → Bool
+crowd v fs x = ltb most_valence (valence (fans_of v fs x))
 
 turned :
     (k : After-turn_at-t) →
@@ -56,63 +58,49 @@ is_wide k =
 
 no-ten :
     (k : After-loop-u) →
-    (verdict_of (check 10 (lowest (parted k.args.indices.now (fans_of k.args.v k.args.indices.now)) k.args.v)) ≡ Pass)
+    (verdict_of (check 10 (lowest (parted k.args.indices.now (fans_of k.args.v k.args.indices.now)) k.args.v)) ≡ (Ok tt))
 no-ten k =
-    lowest-nowhere 10 (parted k.args.indices.now (fans_of k.args.v k.args.indices.now)) k.args.v (λ j h. k.loop-u.invariant.1 j (omega (arith, k.loop-u-test.false)))
+    lowest-nowhere 10 (parted k.args.indices.now (fans_of k.args.v k.args.indices.now)) k.args.v (λ j h. k.loop-u.invariant.0 j (omega (arith, k.loop-u-test.false)))
 
-pub loop-u-init : goal.loop-u-init
-loop-u-init c = (omega arith, λ j h. absurd (omega arith), refl)
-
-pub overflow_cast-u : goal.overflow_cast-u
-overflow_cast-u c = omega (arith, c.requires.2, c.loop-u-test.true)
-
-pub turn_at-t-requires : goal.turn_at-t-requires
-turn_at-t-requires c = (c.requires.0, c.requires.1, c.requires.3.each c.loop-u.u c.loop-u-test.true)
-
-pub overflow_cast-u-in-loop-u : goal.overflow_cast-u-in-loop-u
-overflow_cast-u-in-loop-u c = omega (arith, c.requires.2, c.loop-u-test.true)
-
-pub count_of-requires : goal.count_of-requires
-count_of-requires c = c.requires.0
-
-pub overflow_cast-u-then-short : goal.overflow_cast-u-then-short
-overflow_cast-u-then-short c = omega (arith, c.requires.2, c.loop-u-test.true)
+-- the walks done
+crowded :
+    (k : After-loop-u) →
+    (k.loop-u.crowded ≡ place_of (lowest (crowd k.args.v k.args.indices.now) k.args.v))
+crowded k =
+    let e : k.loop-u.u ≡ k.args.v = omega (arith, k.loop-u-test.false, k.loop-u.auto.u-end) in
+    rw e at k.loop-u.invariant.1
 
 pub returns-then-short : goal.returns-then-short
 returns-then-short c = let fs = c.args.indices.now in
     let v = c.args.v in
     let l = c.loop-u in
     c.no.ensures ∙ sym (or-stops (check 10 (lowest (parted fs (fans_of v fs)) v)) _ _
-    (lowest-here 10 (parted fs (fans_of v fs)) v l.u c.loop-u-test.true (is-parted c.before.before.before ∙ c.if-short.true) l.invariant.1))
+    (lowest-here 10 (parted fs (fans_of v fs)) v l.u c.loop-u-test.true (is-parted c.before.before.before ∙ c.if-short.true) l.invariant.0))
 
 pub loop-u-preserved : goal.loop-u-preserved
 loop-u-preserved c = let fs = c.args.indices.now in
     let v = c.args.v in
     let l = c.loop-u in
     let h = c.loop-u-test.true in (
-      omega (arith, h),
-      below_more _ _ l.invariant.1 (is-parted c.before.before.before.before ∙ c.if-short.false),
-      c.first-crowded.ensures ∙ rw (is_wide c.before.before, l.invariant.2) (first_more (λ x. ltb most_valence (valence (fans_of v fs x))) v l.u h),
+      below_more _ _ l.invariant.0 (is-parted c.before.before.before.before ∙ c.if-short.false),
+      c.first-crowded.ensures ∙ rw (is_wide c.before.before, l.invariant.1) (first_more (crowd v fs) l.u),
     )
 
-pub overflow_cast-crowded : goal.overflow_cast-crowded
-overflow_cast-crowded c = omega (arith, c.requires.2, c.if-crowded-v.true)
+pub overflow_cast-u-in-Some : goal.overflow_cast-u-in-Some
+overflow_cast-u-in-Some c = let fs = c.args.indices.now in
+    let p = crowd c.args.v fs in
+    let q = lowest-found p c.loop-u.u _ (placed (lowest p c.loop-u.u) _ (sym c.loop-u.invariant.1 ∙ c.in-Some.is)) in
+    let b : c.in-Some.u < c.loop-u.u = q.0 in
+    omega (arith, c.requires.2)
 
-pub returns-then-crowded-v : goal.returns-then-crowded-v
-returns-then-crowded-v c = let fs = c.args.indices.now in
+pub returns-in-Some : goal.returns-in-Some
+returns-in-Some c = let fs = c.args.indices.now in
     let v = c.args.v in
-    let l = c.loop-u in
-    let e : l.u ≡ v = omega (arith, c.loop-u-test.false, l.invariant.0) in
-    let p : ℕ → Bool = λ x. ltb most_valence (valence (fans_of v fs x)) in
-    let z : l.crowded ≡ place_or v (lowest p v) = rw e at l.invariant.2 in
-    let q : lowest p v ≡ some l.crowded = rw z (placed p v (rw z at c.if-crowded-v.true)) in
-    c.no-then-crowded-v.ensures ∙ sym (or-goes (check 10 (lowest (parted fs (fans_of v fs)) v)) _ (no-ten c.before.before.before) ∙ rw q)
+    let q = placed (lowest (crowd v fs) v) _ (sym (crowded c.before.before.before) ∙ c.in-Some.is) in
+    c.no-in-Some.ensures ∙ sym (or-goes (check 10 (lowest (parted fs (fans_of v fs)) v)) _ (no-ten c.before.before.before) ∙ rw q)
 
-pub returns : goal.returns
-returns c = let fs = c.args.indices.now in
+pub returns-in-None : goal.returns-in-None
+returns-in-None c = let fs = c.args.indices.now in
     let v = c.args.v in
-    let l = c.loop-u in
-    let e : l.u ≡ v = omega (arith, c.loop-u-test.false, l.invariant.0) in
-    let p : ℕ → Bool = λ x. ltb most_valence (valence (fans_of v fs x)) in
-    let z : l.crowded ≡ place_or v (lowest p v) = rw e at l.invariant.2 in
-    sym (or-goes (check 10 (lowest (parted fs (fans_of v fs)) v)) _ (no-ten c.before.before) ∙ rw (unplaced p v (rw z at c.if-crowded-v.false)))
+    let q = unplaced (lowest (crowd v fs) v) (sym (crowded c.before.before) ∙ c.in-None.is) in
+    sym (or-goes (check 10 (lowest (parted fs (fans_of v fs)) v)) _ (no-ten c.before.before) ∙ rw q)

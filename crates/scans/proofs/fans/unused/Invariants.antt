@@ -1,16 +1,9 @@
-use borrow.Author.Count.{below_more}
-use native.Mathlib.Omega.{arith}
-use mathlib.Core.Path.{◌≡◌, sym, ap, ◌∙◌}
-use Rattle.limits.proofs.Search.{lowest-here, lowest-nowhere}
+use mathlib.Core.Path.{◌≡◌}
 use mathlib.Core.Bool.{false, not}
-use Prim.Native.Nat.{ℕ, ◌-◌, ◌≤◌, ◌<◌}
+use Prim.Native.Nat.{ℕ, ◌<◌}
 use lib.Dec.{eqb}
 use Rattle.lists.specs.Lists.{find, found}
-use borrow.Author.Rules.{rules}
 use Rattle.scans.proofs.fans.unused.Given as goal
 
 abbrev pub invariant-loop-u : goal.invariant-loop-u
-invariant-loop-u l = (l.u ≤ l.v) × ((j : ℕ) → j < l.u → not (found (find (eqb j) l.indices)) ≡ false)
-
-abbrev pub decreases-loop-u : goal.decreases-loop-u
-decreases-loop-u l = l.v - l.u
+invariant-loop-u l = (j : ℕ) → j < l.u → not (found (find (eqb j) l.indices)) ≡ false

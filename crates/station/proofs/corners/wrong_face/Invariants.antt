@@ -13,6 +13,3 @@ use Rattle.station.proofs.corners.wrong_face.Given as goal
 
 abbrev pub invariant-loop-f : goal.invariant-loop-f
 invariant-loop-f l = (l.f ≤ l.nf) × ((j : ℕ) → j < l.f → same_face l.ours l.theirs j ≡ true)
-
-abbrev pub decreases-loop-f : goal.decreases-loop-f
-decreases-loop-f l = l.nf - l.f

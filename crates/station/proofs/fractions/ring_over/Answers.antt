@@ -5,7 +5,8 @@ use borrow.Author.Rules.{rules}
 use lib.ListN.{length}
 use Rattle.weights.specs.Weights.{staged}
 use Rattle.weights.specs.Lent.{all_of, Shares}
-use Rattle.weights.specs.declared.micrometres.Rule.{Rule}
+use Rattle.weights.specs.declared.Rule.{Rule}
+use Rattle.weights.specs.declared.micrometres.Share.{Share}
 use Rattle.weights.proofs.Means.{shares_whole}
 use Rattle.station.proofs.Points.{by-rule, shares-few, eighth-of}
 use Rattle.station.proofs.fractions.ring_over.Lts
@@ -23,7 +24,7 @@ all : (c : After-new-rule) → Shares c.new-rule.result (length c.args.ring.now)
 all c =
     let a = c.args in
     let r = c.requires in
-    subst (λ (w : Rule). Shares w (length a.ring.now)) (sym c.new-rule.ensures) (shares_whole (staged a.stage) a.rim (length a.ring.now) r.1.1.0 r.1.1.1.few)
+    subst (λ (w : Rule Share). Shares w (length a.ring.now)) (sym c.new-rule.ensures) (shares_whole (staged a.stage) a.rim (length a.ring.now) r.1.1.0 r.1.1.1.few)
 
 pub weighted-requires : goal.weighted-requires
 weighted-requires c = let r = c.requires in record { ring = (omega arith, (r.1.1.0, (r.1.0, r.1.1.1))); shares = all c.before }

@@ -10,8 +10,5 @@ use Rattle.station.specs.Far.{raised_at, sum_n}
 use Rattle.station.proofs.Points.{sum-next}
 use Rattle.station.proofs.fractions.ring_sum.Given as goal
 
-abbrev pub invariant-loop-i : goal.invariant-loop-i
-invariant-loop-i l = (l.i ≤ length l.ring) × ((l.x ≡ sum_n (map (raised_at l.xs l.c) (take l.i l.ring))) × (l.x ≤ l.i * (2 * reach)))
-
-abbrev pub decreases-loop-i : goal.decreases-loop-i
-decreases-loop-i l = length l.ring - l.i
+abbrev pub invariant-loop-v : goal.invariant-loop-v
+invariant-loop-v l = (l.v-index ≤ length l.ring) × ((l.x ≡ sum_n (map (raised_at l.xs l.c) (take l.v-index l.ring))) × (l.x ≤ l.v-index * (2 * reach)))

@@ -27,8 +27,8 @@ loop-s-init c = let a = c.args in
 pub overflow_mul-nf : goal.overflow_mul-nf
 overflow_mul-nf c = omega (arith, c.requires.mesh.small)
 
-pub overflow_mul-nf-in-loop-s : goal.overflow_mul-nf-in-loop-s
-overflow_mul-nf-in-loop-s c = omega (arith, c.requires.mesh.small)
+pub overflow_mul-s-end : goal.overflow_mul-s-end
+overflow_mul-s-end c = omega (arith, c.requires.mesh.small)
 
 pub overflow_add-nf : goal.overflow_add-nf
 overflow_add-nf c = omega (arith, c.requires.mesh.small)
@@ -67,9 +67,6 @@ returns-then-not-passes c = let a = c.args in
 pub counted-k-requires : goal.counted-k-requires
 counted-k-requires c = let l = c.loop-s in
     omega (arith, l.invariant.1.0, tally-below (first_met (links (part 0 (3 * c.args.nf) c.args.words.now))) l.s, c.requires.mesh.small)
-
-pub overflow_add-s : goal.overflow_add-s
-overflow_add-s c = omega (arith, c.requires.mesh.small)
 
 pub loop-s-preserved : goal.loop-s-preserved
 loop-s-preserved c = let a = c.args in

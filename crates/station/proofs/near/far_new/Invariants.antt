@@ -17,6 +17,3 @@ use Rattle.station.proofs.near.far_new.Given as goal
 abbrev pub invariant-loop-s : goal.invariant-loop-s
 invariant-loop-s l = (l.s ≤ 3 * l.nf) × ((l.k ≡ tally (first_met (links (part 0 (3 * l.nf) l.words))) (count 0 l.s))
     × (far_from (needs_at (exact1 l.words l.nf l.nv l.xs) l.ys) l.t (3 * l.nv) (3 * edges_in l.words 0 l.nf) ≡ rest (exact1 l.words l.nf l.nv l.xs) l.ys l.t l.nv (edges_in l.words 0 l.nf) l.k))
-
-abbrev pub decreases-loop-s : goal.decreases-loop-s
-decreases-loop-s l = 3 * l.nf - l.s

@@ -10,6 +10,3 @@ use Rattle.station.proofs.near.far_old.Given as goal
 
 abbrev pub invariant-loop-u : goal.invariant-loop-u
 invariant-loop-u l = (l.u ≤ l.nv) × (far_from (needs_at (exact0 l.words l.nf l.nv l.xs) l.ys) l.t 0 (3 * l.nv) ≡ rest (exact0 l.words l.nf l.nv l.xs) l.ys l.t 0 l.nv l.u)
-
-abbrev pub decreases-loop-u : goal.decreases-loop-u
-decreases-loop-u l = l.nv - l.u

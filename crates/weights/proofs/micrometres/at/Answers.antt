@@ -1,11 +1,5 @@
-use native.Mathlib.Omega.{arith}
 use Rattle.whole.proofs.Sums.{lower-raise}
 use Rattle.weights.proofs.micrometres.at.Goals as goal
-
-pub raised_at-requires : goal.raised_at-requires
-raised_at-requires c = let a = c.args in
-    let h = c.requires in
-    (omega (arith, h.1.room), h.1.near a.c h.0)
 
 pub returns : goal.returns
 returns c = let a = c.args in

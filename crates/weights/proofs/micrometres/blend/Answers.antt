@@ -1,12 +1,8 @@
 use Prim.Native.Nat.{ℕ}
 use mathlib.Core.Path.{ap, ◌∙◌}
-use native.Mathlib.Omega.{arith}
 use Rattle.whole.specs.Whole.{nearest, raise, lower}
 use Rattle.weights.proofs.Means.{blend_is}
 use Rattle.weights.proofs.micrometres.blend.Goals as goal
-
-pub rounded-requires : goal.rounded-requires
-rounded-requires c = let w = c.requires.0 in (w.above, omega (arith, w.few), c.mix.ensures.1)
 
 pub returns : goal.returns
 returns c = let e = ap (λ (x : ℕ). raise (nearest (lower c.args.b.all x) c.args.b.all)) c.mix.ensures.0 in

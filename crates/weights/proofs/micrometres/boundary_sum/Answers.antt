@@ -18,24 +18,6 @@ both xs vs k {p} {q} h x y =
     let all = raised-as {t = p + q} {v = 2} two (omega arith) (omega arith) in
     (lower-is all ∙ sym (ap (λ (us : List ℕ). sum_of xs us k) (ends-are vs h)), all.most)
 
-pub at-requires : goal.at-requires
-at-requires c = (omega arith, c.requires.1.at 0 c.requires.0)
-
-pub at-requires-2 : goal.at-requires-2
-at-requires-2 c = (omega arith, c.requires.1.at (length c.args.ring.now - 1) (omega arith))
-
-pub at-requires-3 : goal.at-requires-3
-at-requires-3 c = (omega arith, c.requires.1.at 0 c.requires.0)
-
-pub at-requires-4 : goal.at-requires-4
-at-requires-4 c = (omega arith, c.requires.1.at (length c.args.ring.now - 1) (omega arith))
-
-pub at-requires-5 : goal.at-requires-5
-at-requires-5 c = (omega arith, c.requires.1.at 0 c.requires.0)
-
-pub at-requires-6 : goal.at-requires-6
-at-requires-6 c = (omega arith, c.requires.1.at (length c.args.ring.now - 1) (omega arith))
-
 pub returns : goal.returns
 returns c = let x = c.before.before.before.before.before.before in
     let xs = x.args.xs.now in

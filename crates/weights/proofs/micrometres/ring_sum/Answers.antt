@@ -5,50 +5,25 @@ use native.Mathlib.Omega.{arith}
 use lib.ListN.{length, take}
 use lib.Seq.{take_all}
 use lib.IntN.{ℤ}
-use borrow.Author.Rules.{rules}
-use Rattle.whole.proofs.Sums.{Raised, raised-zero, lower-is}
+use Rattle.whole.proofs.Sums.{Raised, lower-is}
 use Rattle.rules.specs.Position.{whole}
 use Rattle.rules.specs.Levels.{coord}
 use Rattle.weights.specs.Lent.{Stands, sum_of}
 use Rattle.weights.proofs.Means.{raised_of, raised-more}
 use Rattle.weights.proofs.micrometres.ring_sum.Goals as goal
 
-pub loop-i-init : goal.loop-i-init
-loop-i-init c = (search rules, (raised-zero, (raised-zero, raised-zero)))
-
-pub at-x-requires : goal.at-x-requires
-at-x-requires c = (omega arith, c.requires.at c.loop-i.i (omega arith))
-
-pub overflow_add-x : goal.overflow_add-x
-overflow_add-x c = omega (arith, c.loop-i.invariant.1.0.most, c.requires.few)
-
-pub at-y-requires : goal.at-y-requires
-at-y-requires c = (omega arith, c.requires.at c.loop-i.i (omega arith))
-
-pub overflow_add-y : goal.overflow_add-y
-overflow_add-y c = omega (arith, c.loop-i.invariant.1.1.0.most, c.requires.few)
-
-pub at-z-requires : goal.at-z-requires
-at-z-requires c = (omega arith, c.requires.at c.loop-i.i (omega arith))
-
-pub overflow_add-z : goal.overflow_add-z
-overflow_add-z c = omega (arith, c.loop-i.invariant.1.1.1.most, c.requires.few)
-
-pub loop-i-preserved : goal.loop-i-preserved
-loop-i-preserved c = let a = c.args in
-    let v = c.loop-i.invariant.1 in
+pub loop-u-preserved : goal.loop-u-preserved
+loop-u-preserved c = let a = c.args in
+    let v = c.loop-u.invariant in
     let x = c.at-x.ensures in
     let y = c.at-y.ensures in
     let z = c.at-z.ensures in
     let xs = a.xs.now in
     let vs = a.ring.now in
-    let i = c.loop-i.i in
+    let i = c.loop-u.u-index in
     let h : i < length vs = omega arith in (
-      search rules,
-      (
-        raised-more (coord whole xs 0) vs i 0 h v.0 (raised_of x.0 x.1),
-        (raised-more (coord whole xs 1) vs i 0 h v.1.0 (raised_of y.0 y.1), raised-more (coord whole xs 2) vs i 0 h v.1.1 (raised_of z.0 z.1)),
-      ),
+      raised-more (coord whole xs 0) vs i 0 h v.0 (raised_of x.0 x.1),
+      (raised-more (coord whole xs 1) vs i 0 h v.1.0 (raised_of y.0 y.1), raised-more (coord whole xs 2) vs i 0 h v.1.1 (raised_of z.0 z.1)),
     )
 
 -- coordinate k, when none is left
@@ -59,8 +34,8 @@ whole-ring xs vs k {s} {i} e r =
 
 pub returns : goal.returns
 returns c = let a = c.args in
-    let v = c.loop-i.invariant.1 in
+    let v = c.loop-u.invariant in
     let xs = a.xs.now in
     let vs = a.ring.now in
-    let h : c.loop-i.i ≡ length vs = omega arith in
+    let h : c.loop-u.u-index ≡ length vs = omega arith in
     (whole-ring xs vs 0 h v.0, (whole-ring xs vs 1 h v.1.0, whole-ring xs vs 2 h v.1.1))

@@ -1,4 +1,10 @@
+use Rattle.weights.proofs.Floats.{three-eighths, eighth, weighs, adds}
 use Rattle.weights.proofs.points.edge_inner.Goals as goal
 
 pub returns : goal.returns
-returns c = rw (c.edge_inner.ensures, c.point-4.ensures, c.point-3.ensures, c.point-2.ensures, c.point.ensures, c.higher.ensures, c.lower.ensures)
+returns k = let x = k.args in
+    adds x.d k.add-2.ensures
+    (adds x.c k.add.ensures
+    (adds x.b k.add-ends.ensures (weighs x.a k.mul.ensures three-eighths) k.mul-2.ensures three-eighths)
+    k.mul-3.ensures eighth)
+    k.mul-4.ensures eighth

@@ -1,6 +1,5 @@
 use mathlib.Core.Path.{refl, sym, ap, ◌∙◌}
 use Prim.Native.Nat.{◌-◌}
-use native.Mathlib.Omega.{arith}
 use lib.ListN.{length, get_or}
 use Rattle.vectors.specs.declared.Vec3.{Vec3}
 use Rattle.vectors.specs.Vectors.{scaled}
@@ -9,12 +8,6 @@ use Rattle.weights.specs.Lent.{point_at, weighed_point}
 use Rattle.weights.proofs.Floats.{two, adds, weighs, own_is}
 use Rattle.weights.proofs.Means.{ends-are}
 use Rattle.weights.proofs.points.weight_boundary.Goals as goal
-
-pub point-first-requires : goal.point-first-requires
-point-first-requires c = c.requires.1.1.at 0 c.requires.1.0
-
-pub point-last-requires : goal.point-last-requires
-point-last-requires c = c.requires.1.1.at (length c.args.ring.now - 1) (omega arith)
 
 pub returns : goal.returns
 returns c = let d = c.before.before.before.before in

@@ -1,6 +1,0 @@
-use mathlib.Core.Path.{ap, ◌∙◌}
-use Rattle.rules.specs.Answers.{answer}
-use Rattle.cage.proofs.boundary.cage_judge_whole.Goals as goal
-
-pub returns : goal.returns
-returns c = c.tell.ensures ∙ ap answer c.judge_whole.ensures

@@ -1,4 +1,0 @@
-use Rattle.faces.proofs.face.next_vert.Goals as goal
-
-pub returns : goal.returns
-returns c = rw (c.vert_at.ensures, c.vnum.ensures)

@@ -1,5 +1,0 @@
-use Rattle.weights.proofs.Floats.{one, three, eight}
-use Rattle.weights.proofs.loop_gamma.Goals as goal
-
-pub returns : goal.returns
-returns c = cc (one, three, eight)
