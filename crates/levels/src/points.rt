@@ -16,6 +16,7 @@ use turns::MOST_VALENCE;
 use weights::{Stage, Weighed};
 
 // Vertex u of the mesh that stands at `at`, whose coordinates are xs, by its ring and the stage.
+#[inline(always)]
 pub fn moved_point<N: Weighed>(
     words: &[u32],
     at: usize,
