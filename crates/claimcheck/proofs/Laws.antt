@@ -20,7 +20,7 @@ use Rattle.station.specs.declared.Fault.TheVariants.{Counts as CountsDiffer}
 use Rattle.station.specs.declared.Verdict.TheVariants.{Yes, No, Refused}
 use Rattle.station.specs.Acceptance.{verdict}
 use Rattle.station.specs.declared.Verdict.{Verdict}
-use Rattle.claimcheck.specs.Output.{Claim, rims_of, with_rims, verdict_text, unreadable_text, claim_verdict, Judged, sheet_in, listing_in, early}
+use Rattle.claimcheck.specs.Output.{Claim, rims_of, with_rims, unreadable_text, claim_verdict, claim_text, Judged, sheet_in, listing_in, early}
 
 below-zero : (n : ℕ) → pos 0 -ℤ pos (suc n) ≡ negsuc n
 below-zero n = let e : suc n - 1 ≡ n = omega arith in rw (lt-ltb 0 (suc n) (omega arith), e)
@@ -44,14 +44,14 @@ put_front {a} {b} {p} {n} w h = rw w.text (part_of p a 0 n (omega (arith, w.next
 
 -- ---- the verdict
 
-pub judged-by : (t : ℕ) (b listing before after : List ℕ) (next : ℕ) (k : Claim) (v w : Verdict) (o : ℕ)
-    → listing ≡ mesh_text k.counts k.positions k.faces
+pub judged-by : (t : ℕ) (b listing before after : List ℕ) (next : ℕ) (k : Claim) (whole : Bool) (v w : Verdict) (o : ℕ)
+    → (whole ≡ true → listing ≡ mesh_text k.counts k.positions k.faces)
     → v ≡ verdict cut_rooms t (sheet_levels b) (sheet_indices b) (sheet_coords b) k.faces k.positions → o ≡ rims_of (sheet_outcome cut_rooms b) → w ≡ with_rims k.counts.rims o v
-    → Put before 0 (verdict_text w) after next → Judged t b listing before after next
+    → Put before 0 (claim_text whole w) after next → Judged t b listing before after next
 unfolding claim_verdict
-judged-by t b listing before after next k v w o r e f g p =
+judged-by t b listing before after next k whole v w o r e f g p =
     let h = g ∙ ap (λ (x : ℕ). with_rims k.counts.rims x v) f ∙ ap (λ (x : Verdict). with_rims k.counts.rims (rims_of (sheet_outcome cut_rooms b)) x) e in
-    record { claim = k; whole = true; read = λ z. r; put = rw h at p }
+    record { claim = k; whole = whole; read = r; put = rw h at p }
 
 -- what is no listing claims nothing; its rim sides change nothing of what is told
 told-as : (theirs ours : ℕ) (v : Verdict) → unreadable_text v ≡ unreadable_text (with_rims theirs ours v)

@@ -210,7 +210,8 @@ fn with_rims(theirs: u32, ours: u32, v: Verdict) -> Verdict
     }
 }
 
-// The lists of a sheet that is not over 32,768 bytes are within local arrays.
+// The lists of a sheet that is not over 32,768 bytes are within local arrays. In the frame of who calls it they share the room of the listing's (docs/DECISIONS.md, "Four attributes").
+#[inline(always)]
 fn held(t: u32, bytes: &[u8], s: Sheet, theirs: &[u32], claimed: &[i32]) -> Verdict
     requires { (3 * s.vertices ≤ 8192) × (3 * s.faces ≤ 8192) × (trailer_of bytes.now ≡ Some s) }
     ensures { result ≡ verdict cut_rooms t (sheet_levels (given bytes)) (sheet_indices (given bytes)) (sheet_coords (given bytes)) (given theirs) (given claimed) }

@@ -10,7 +10,9 @@ use rules::{Counts, Refusal};
 
 mod programs;
 
-pub use programs::{complain, complain_of, input, output};
+pub use programs::{
+    STDERR_FILENO, STDIN_FILENO, STDOUT_FILENO, complain, complain_of, input, output,
+};
 
 pub fn byte(text: &mut [u8], at: usize, b: u8) -> usize
     requires { at + 1 ≤ length text.old }

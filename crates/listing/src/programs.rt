@@ -5,11 +5,11 @@ ghost use Rattle.io.specs.Counts.{IsPrefixLen};
 
 use rules::Refusal;
 
-const STDIN_FILENO: i32 = 0;
+pub const STDIN_FILENO: i32 = 0;
 
-const STDOUT_FILENO: i32 = 1;
+pub const STDOUT_FILENO: i32 = 1;
 
-const STDERR_FILENO: i32 = 2;
+pub const STDERR_FILENO: i32 = 2;
 
 // Standard input, as much of it as there is room for. A program lends one byte more than its most, so that 16 can be told.
 pub fn input(room: &mut [u8]) -> usize

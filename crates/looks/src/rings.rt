@@ -1,10 +1,10 @@
 // Walks and rings that look each neighbour up, as the Rust asks a face: `next_face`, `prev_face`, `next_vert`, `prev_vert`, `other_vert`.
-ghost use Rattle.std.specs.Prelude.{◌≡◌, ◌+◌, ◌-◌, ◌*◌, ◌≤◌, ◌<◌, length};
+ghost use Rattle.std.specs.Prelude.{◌≡◌, ℕ, ◌+◌, ◌-◌, ◌*◌, ◌≤◌, ◌<◌, length};
 ghost use Rattle.std.proofs.lemmas.List.Edits.{sets};
 ghost use Rattle.turns.specs.Turns.{most_valence};
 ghost use Rattle.lists.specs.Lists.{part, tally};
 ghost use Rattle.rules.specs.Mesh as mesh;
-ghost use Rattle.faces.specs.Rings.{Ends, trip_of, turn_of, inners, backs};
+ghost use Rattle.faces.specs.Rings.{Ends, Steps, Follows, trip_of, turn_of, inners, backs};
 ghost use Rattle.marks.specs.Marks.{marks_in};
 ghost use Rattle.creases.specs.Rings.{comes, sharp_ring_of};
 ghost use Rattle.looks.specs.Looked.{Seen, Ringed, number_of};
@@ -13,7 +13,7 @@ use crate::{bare, next_corner, prev_corner};
 use creases::rings::{Met, Rest, SharpRing, meet, tallied};
 use faces::face::{next_vert, other_vert, prev_vert};
 use faces::sides::{FaceNo, VertNo, backward, onward};
-use faces::walks::{Step, Trip, Turn, rim_turn, walk};
+use faces::walks::{Step, Trip, Turn, rim_turn};
 
 pub fn number_of(v: Option<VertNo>) -> u32
     ensures { result ≡ number_of v }
@@ -46,6 +46,24 @@ pub fn far_of(words: &[u32], at: usize, nf: usize, s: usize) -> u32
     let a = VertNo(words[at + s]);
     let b = VertNo(words[at + onward(s)]);
     number_of(other_vert(bare(words, at, FaceNo((s / 3) as u32)), a, b))
+}
+
+// From corner s, step by step, past so many faces at most. The steps are `next_corner` or `prev_corner`.
+// Stays: beside `faces::walks::walk`, since the checks of the plain engine are its own (docs/DECISIONS.md): a slip in the loop of either shows in the other.
+fn walk<F: Fn(usize) -> Step>(step: F, nf: usize, s: usize) -> Trip
+    requires start { s < 3 * nf }
+    requires steps { Steps (F.pre step) (F.post step) nf }
+    ensures { (next : ℕ → mesh.Step) → Follows (F.post step) nf next → result ≡ trip_of (mesh.walk next nf (mesh.here s)) }
+{
+    let mut x = s;
+    for n in 0..nf {
+        match step(x) {
+            Step::Home => return Trip::Closed(n + 1),
+            Step::Off => return Trip::Ended(n + 1, x),
+            Step::Here(t) => x = t,
+        }
+    }
+    Trip::Long
 }
 
 // Round the vertex of corner s.

@@ -5,10 +5,8 @@
 ghost use Rattle.std.specs.Prelude.{◌≡◌, ◌+◌, ◌*◌, ◌≤◌, length, pos, Ok};
 ghost use Rattle.std.proofs.lemmas.List.Edits.{sets};
 ghost use Rattle.lists.specs.Lists.{cleared};
-ghost use Rattle.rules.specs.Position.{whole, single, f32};
+ghost use Rattle.rules.specs.Position.{whole, single};
 ghost use Rattle.rules.specs.Levels.{last};
-ghost use Rattle.rules.specs.Levels.{positions as positions_of};
-ghost use Rattle.rules.specs.Tangents.{normals as normals_of};
 ghost use Rattle.rules.specs.Answers.{outcome, whole_rooms, single_rooms};
 ghost use Rattle.rules.specs.Sharp.{sharp_last, sharp_positions, sharp_outcome};
 ghost use Rattle.rules.specs.Calls.{given, lent, buffers, SharpCall, SingleCall};
@@ -18,6 +16,8 @@ ghost use Rattle.sharp.specs.Marked.{Listed};
 use rules::{Counts, Outcome};
 
 mod engine;
+pub mod micrometres;
+pub mod points;
 
 // The outcome of a call on buffers of these lengths: nothing is written for it.
 pub fn judge_whole(
@@ -57,7 +57,7 @@ fn act(
     ensures work { work.new ≡ cleared (pos 0) (2 * third_of nv) work.old }
 {
     if sharp.len() == 0 {
-        engine::run(levels, indices, coords, nf, nv, positions, out, words, work);
+        micrometres::run(levels, indices, coords, nf, nv, positions, out, words, work);
         return;
     }
     sharp::run(
@@ -132,34 +132,6 @@ fn judge_single(
     room::single_room(c, positions, normals, out, words, work)
 }
 
-// The run in f32: what the last level gives, and the normals from that, before the work buffers are cleared.
-fn act_single(
-    levels: u32,
-    indices: &[u32],
-    coords: &[f32],
-    nf: usize,
-    nv: usize,
-    positions: &mut [f32],
-    normals: &mut [f32],
-    out: &mut [u32],
-    words: &mut [u32],
-    work: &mut [f32],
-)
-    requires planned { Planned single levels indices.now coords.now nf nv }
-    requires room { (2 * half_of nf nv ≤ length words.old) × ((2 * third_of nv ≤ length work.old) × ((3 * nv ≤ length positions.old) × ((3 * nv ≤ length normals.old) × (3 * nf ≤ length out.old)))) }
-    ensures positions { positions.new ≡ sets positions.old 0 (positions_of single (last single levels indices.now coords.now)) }
-    ensures normals { normals.new ≡ sets normals.old 0 (normals_of (last single levels indices.now coords.now)) }
-    ensures out { out.new ≡ sets out.old 0 (last single levels indices.now coords.now).mesh.faces }
-    ensures words { words.new ≡ cleared 0 (2 * half_of nf nv) words.old }
-    ensures work { work.new ≡ cleared (f32 0) (2 * third_of nv) work.old }
-{
-    engine::work_out(levels, indices, coords, nf, nv, positions, out, words, work);
-    let at = room::start(levels, 8 * nf + 4 * nv);
-    let third = 3 * nv;
-    tangents::normals(&words[..], at, nf, nv as u32, &positions[0..third], normals);
-    engine::clear(nf, nv, words, work);
-}
-
 // f32, with normals, as the Rust. Lent at the final F and V: positions 3V, normals 3V, out 3F, words 16F+8V, work 6V.
 pub fn loop_subdivide(
     levels: u32,
@@ -185,7 +157,7 @@ pub fn loop_subdivide(
     )?;
     let nf = c.faces as usize;
     let nv = c.vertices as usize;
-    act_single(
+    points::run(
         levels, indices, coords, nf, nv, positions, normals, out, words, work,
     );
     Ok(c)

@@ -58,11 +58,14 @@ pub fn single_room(
     Ok(c)
 }
 
+// Stays: an entry at a time, since the archives for C would need `memmove` from outside by `copy_from_slice`, beside `memcpy` and `memset`; tests/gate-c holds that.
 pub fn copy<T: Copy>(w: &[T], s: &mut [T])
     requires { length w.now ≤ length s.old }
     ensures { s.new ≡ sets s.old 0 w.now }
 {
-    s[..w.len()].copy_from_slice(w);
+    for k in 0..w.len() {
+        s[k] = w[k];
+    }
 }
 
 // The first n entries become z.

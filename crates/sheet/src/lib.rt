@@ -23,8 +23,10 @@ pub trait Engine {
         ensures { SharpCall levels (given sharp) (given indices) (given coords) (buffers positions out words work) result };
 }
 
+#[derive(Clone, Copy)]
 pub struct Linked;
 
+#[derive(Clone, Copy)]
 pub struct Plain;
 
 impl Engine for Linked {

@@ -3,14 +3,8 @@ use mathlib.Core.List.{List}
 use lib.IntN.{ℤ}
 use lib.ListN.{length}
 use lib.Seq.{sets}
-use Rattle.rules.proofs.Range.{near-at}
 use Rattle.loopsubdiv.proofs.SharpOutcomes.{empty-positions}
 use Rattle.loopsubdiv.proofs.act.Goals as goal
-
-pub run-requires : goal.run-requires
-run-requires c = let a = c.args in
-    let p = c.requires.planned.0 in
-    record { planned = p; near = λ i. (near-at a.levels i a.indices.now a.coords.now p.passes).0; room = c.requires.room }
 
 pub returns-then-sharp-eq0 : goal.returns-then-sharp-eq0
 returns-then-sharp-eq0 c = let r = c.run.ensures in

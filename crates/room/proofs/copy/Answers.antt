@@ -1,12 +1,7 @@
 use native.Mathlib.Omega.{arith}
-use Prim.Native.Nat.{◌+◌}
-use mathlib.Core.Path.{◌≡◌}
-use lib.ListN.{length}
-use Rattle.std.proofs.lemmas.List.Edits.{sets-eq}
+use Rattle.lists.proofs.Stores.{copy_more}
 use Rattle.room.proofs.copy.Goals as goal
 
-pub returns : goal.returns
-returns g c =
-    let w = c.args.w.now in
-    let z : 0 + length w ≡ length w = omega arith in
-    rw (c.copy_from_slice.ensures.after, sets-eq w c.args.s.now 0 (omega arith), z)
+pub loop-k-preserved : goal.loop-k-preserved
+loop-k-preserved g c = let x = c.index-w-k in
+    rw (c.loop-k.invariant, x.is) (copy_more c.args.s.now c.args.w.now c.loop-k.k x.result (omega arith))

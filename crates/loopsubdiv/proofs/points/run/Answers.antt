@@ -12,7 +12,7 @@ use Rattle.room.specs.Held.{half_of, third_of}
 use Rattle.room.proofs.First.{clear_kept}
 use Rattle.room.proofs.Last.{last_fits}
 use Rattle.loopsubdiv.proofs.Normals.{front_read, last-smooth, last-normals}
-use Rattle.loopsubdiv.proofs.act_single.Goals as goal
+use Rattle.loopsubdiv.proofs.points.run.Goals as goal
 
 pub overflow_cast-nv : goal.overflow_cast-nv
 overflow_cast-nv c = record { fits = omega (arith, (last_fits single c.args.levels c.args.indices.now c.args.coords.now c.args.nf c.args.nv c.requires.planned).most, c.requires.planned.verts) }
