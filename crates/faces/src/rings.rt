@@ -56,6 +56,7 @@ fn gather_on(
 }
 
 // The first n the other way, in place: with a copy beside them its places would be kept in step all along the walk on.
+#[tactic(auto, using(crate::proofs::Retrace::reversed_front))]
 pub fn upend(n: usize, s: &mut [u32])
     requires { (0 < n) × (n ≤ length s.old) }
     ensures { s.new ≡ sets s.old 0 (down_from s.old (n - 1)) }

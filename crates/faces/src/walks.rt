@@ -61,7 +61,7 @@ pub enum Trip {
     Long,
 }
 
-// From corner s, step by step, past so many faces at most. The steps are `next_corner` or `prev_corner`, by link words or by looking.
+// From corner s, step by step, past so many faces at most. The steps are `next_corner` or `prev_corner`.
 pub fn walk<F: Fn(usize) -> Step>(step: F, nf: usize, s: usize) -> Trip
     requires start { s < 3 * nf }
     requires steps { Steps (F.pre step) (F.post step) nf }

@@ -58,7 +58,7 @@ pub fn single_room(
     Ok(c)
 }
 
-// Stays: an entry at a time, since the archives for C would need `memmove` from outside by `copy_from_slice`, beside `memcpy` and `memset`; tests/gate-c holds that.
+// Stays: an entry at a time, since by `copy_from_slice` the library for C would need `memmove` from outside, beside `memcpy` and `memset`; tests/gate-c holds that.
 pub fn copy<T: Copy>(w: &[T], s: &mut [T])
     requires { length w.now ≤ length s.old }
     ensures { s.new ≡ sets s.old 0 w.now }
