@@ -32,7 +32,9 @@ fn tell(o: Outcome, slots: &mut [u32], at: usize)
 {
     let mut told = [0u32; 5];
     rules::tell(o, &mut told);
-    slots[at..at + 5].copy_from_slice(&told);
+    for k in 0..5 {
+        slots[at + k] = told[k];
+    }
 }
 
 // Sheet after sheet: where its bytes begin, and how much room the sheets before it took.
